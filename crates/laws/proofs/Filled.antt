@@ -1,0 +1,80 @@
+-- Laws of `filled` and `written`: a slice stored into from its front, and a part of it written over.
+-- Assumes nothing.
+use mathlib.Core.Path.{_≡_, refl, sym, _∙_, ap}
+use mathlib.Core.List.{List, [], _∷_, _++_, append-nil, append-assoc}
+use Prim.Native.Nat.{ℕ, zero, suc, _+_, _-_, _<_, _≤_}
+use native.Mathlib.Nat.{add-zero}
+use native.Mathlib.Numerals.{add-one}
+use native.Mathlib.Omega.{arith}
+use lib.ListN.{length, getD, set, take, drop, length-append, length-take, length-drop, List·getD-append, take-append-drop}
+use lib.Seq.{drop-cons, set-at, append-snoc, getD-append-add, getD-drop, getD-take, set-getD, sets, sets-eq, take-at, drop-at}
+use Rattle.laws.specs.Lists.{tab, filled, written}
+use Rattle.laws.proofs.Lists.{length-tab, getD-tab}
+
+module _ {A : Type 0} (f : ℕ → A) where
+  pub filled-none : (l : List A) → filled 0 f l ≡ l
+  filled-none l = refl
+
+  -- one store more
+  pub filled-more : (n : ℕ) (l : List A) (v : A) → v ≡ f n → n < length l → set (filled n f l) n v ≡ filled (n + 1) f l
+  filled-more n l v e h =
+      rw (add-one, e, drop-cons l n (f n) h, set-at (tab n f) (getD l n (f n)) (drop (suc n) l) (f n) n (length-tab f n)) (sym (append-snoc (tab n f) (f n) (drop (suc n) l)))
+
+  pub length-filled : (n : ℕ) (l : List A) → n ≤ length l → length (filled n f l) ≡ length l
+  length-filled n l h = simp (length-append, length-tab, length-drop) (omega arith)
+
+  pub getD-filled : (n : ℕ) (l : List A) (d : A) (i : ℕ) → i < n → getD (filled n f l) i d ≡ f i
+  getD-filled n l d i h =
+      let k : i < length (tab n f) = rw (length-tab f n) h in
+      List·getD-append (tab n f) (drop n l) d i k ∙ getD-tab f d n i h
+
+  -- what is not stored to yet is as it was
+  pub getD-unfilled : (n : ℕ) (l : List A) (d : A) (i : ℕ) → getD (filled n f l) (n + i) d ≡ getD l (n + i) d
+  getD-unfilled n l d i =
+      let e : n + i ≡ length (tab n f) + i = omega (arith, length-tab f n) in
+      ap (λ (k : ℕ). getD (filled n f l) k d) e ∙ getD-append-add (tab n f) (drop n l) i d ∙ getD-drop n l i d
+
+  pub getD-filled-next : (n : ℕ) (l : List A) (d : A) → getD (filled n f l) n d ≡ getD l n d
+  getD-filled-next n l d =
+      ap (λ (k : ℕ). getD (filled n f l) k d) (sym (add-zero n)) ∙ getD-unfilled n l d 0 ∙ ap (λ (k : ℕ). getD l k d) (add-zero n)
+
+  -- a turn that stores nothing, where the old element is the one to be stored
+  pub filled-kept : (n : ℕ) (l : List A) (d : A) → getD l n d ≡ f n → n < length l → filled n f l ≡ filled (n + 1) f l
+  filled-kept n l d e h = sym (set-getD (filled n f l) n d) ∙ filled-more n l (getD (filled n f l) n d) (getD-filled-next n l d ∙ e) h
+
+-- `written` is `lib.Seq.sets` where the part lies within the list
+pub written-sets : {A : Type 0} (l : List A) (i : ℕ) (vs : List A) → i + length vs ≤ length l → written l i vs ≡ sets l i vs
+written-sets l i vs h = sym (sets-eq vs l i h)
+
+module _ {A : Type 0} (l : List A) (i : ℕ) (vs : List A) (fits : i + length vs ≤ length l) where
+  length-head : length (take i l) ≡ i
+  length-head = simp length-take (omega arith)
+
+  pub length-written : length (written l i vs) ≡ length l
+  length-written = simp (length-append, length-take, length-drop) (omega arith)
+
+  pub take-written : take i (written l i vs) ≡ take i l
+  take-written = rw append-assoc (take-at (take i l) (vs ++ drop (i + length vs) l) i length-head)
+
+  pub drop-written : drop i (written l i vs) ≡ vs ++ drop (i + length vs) l
+  drop-written = rw append-assoc (drop-at (take i l) (vs ++ drop (i + length vs) l) i length-head)
+
+  -- an element of what was written, before it, after it
+  pub getD-written : (d : A) (k : ℕ) → k < length vs → getD (written l i vs) (i + k) d ≡ getD vs k d
+  getD-written d k h =
+      sym (getD-drop i (written l i vs) k d) ∙ ap (λ (s : List A). getD s k d) drop-written
+      ∙ List·getD-append vs (drop (i + length vs) l) d k h
+
+  pub getD-before : (d : A) (k : ℕ) → k < i → getD (written l i vs) k d ≡ getD l k d
+  getD-before d k h =
+      sym (getD-take i (written l i vs) k d h) ∙ ap (λ (s : List A). getD s k d) take-written ∙ getD-take i l k d h
+
+  pub getD-after : (d : A) (k : ℕ) → getD (written l i vs) (i + length vs + k) d ≡ getD l (i + length vs + k) d
+  getD-after d k =
+      let e : length (take i l ++ vs) ≡ i + length vs = simp (length-append, length-take) (omega arith) in
+      ap (λ (n : ℕ). getD (written l i vs) (n + k) d) (sym e) ∙ getD-append-add (take i l ++ vs) (drop (i + length vs) l) k d
+      ∙ getD-drop (i + length vs) l k d
+
+-- nothing written
+pub written-none : {A : Type 0} (l : List A) (i : ℕ) → written l i [] ≡ l
+written-none l i = rw append-nil (ap (λ (k : ℕ). take i l ++ drop k l) (add-zero i) ∙ take-append-drop i l)

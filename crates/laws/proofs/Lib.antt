@@ -1,0 +1,8 @@
+-- The shared laws.
+pub mod Cases
+pub mod Tests
+pub mod Counts
+pub mod Find
+pub mod Lists
+pub mod Filled
+pub mod Bits

@@ -1,0 +1,72 @@
+-- Laws of `every` and `any`.
+-- Assumes nothing.
+use mathlib.Core.Path.{_≡_, refl, sym, _∙_, ap, ap₂}
+use mathlib.Core.Bool.{Bool, true, false, not, _&&_, _||_, and-false, or-true, false≢true}
+use Prim.Native.Nat.{ℕ, zero, suc, _+_, _<_, _≤_}
+use native.Mathlib.Nat.{not-suc-le-zero}
+use native.Mathlib.Numerals.{add-one}
+use native.Mathlib.Omega.{arith}
+use Rattle.laws.specs.Tests.{every, any}
+use Rattle.laws.proofs.Cases.{by-test, last-or-below, and-split, or-split}
+
+module _ (f : ℕ → Bool) where
+  pub every-next : (i : ℕ) → every (i + 1) f ≡ (every i f && f i)
+  every-next i = rw add-one refl
+
+  pub any-next : (i : ℕ) → any (i + 1) f ≡ (any i f || f i)
+  any-next i = rw add-one refl
+
+  pub every-of : (n : ℕ) → ((i : ℕ) → i < n → f i ≡ true) → every n f ≡ true
+  every-of zero h = refl
+  every-of (suc n) h = ap₂ _&&_ (every-of n (λ i p. h i (omega arith))) (h n (omega arith))
+
+  pub every-at : (n : ℕ) → every n f ≡ true → (i : ℕ) → i < n → f i ≡ true
+  every-at zero p i h = absurd (not-suc-le-zero h)
+  every-at (suc n) p i h =
+      let both = and-split (every n f) (f n) p in
+      last-or-below i n h (λ e. ap f e ∙ both .1) (λ l. every-at n (both .0) i l)
+
+  pub every-fails : (n i : ℕ) → i < n → f i ≡ false → every n f ≡ false
+  every-fails n i h e = by-test (every n f) (λ p. absurd (false≢true (sym e ∙ every-at n p i h))) (λ p. p)
+
+  -- fewer numbers
+  pub every-fewer : (m n : ℕ) → m ≤ n → every n f ≡ true → every m f ≡ true
+  every-fewer m n l p = every-of m (λ i h. every-at n p i (omega arith))
+
+  pub any-of : (n i : ℕ) → i < n → f i ≡ true → any n f ≡ true
+  any-of zero i h e = absurd (not-suc-le-zero h)
+  any-of (suc n) i h e =
+      last-or-below i n h (λ p. ap (λ (b : Bool). any n f || b) (ap f (sym p) ∙ e) ∙ or-true (any n f))
+      (λ l. ap (λ (b : Bool). b || f n) (any-of n i l e))
+
+  pub any-none : (n : ℕ) → ((i : ℕ) → i < n → f i ≡ false) → any n f ≡ false
+  any-none zero h = refl
+  any-none (suc n) h = ap₂ _||_ (any-none n (λ i p. h i (omega arith))) (h n (omega arith))
+
+  pub any-out : (n : ℕ) → any n f ≡ false → (i : ℕ) → i < n → f i ≡ false
+  any-out n e i h = by-test (f i) (λ p. absurd (false≢true (sym e ∙ any-of n i h p))) (λ p. p)
+
+  -- a number at which the test holds
+  pub any-at : (n : ℕ) → any n f ≡ true → (i : ℕ) × (i < n) × (f i ≡ true)
+  any-at zero e = absurd (false≢true e)
+  any-at (suc n) e =
+      by-test (f n) (λ p. (n, omega arith, p))
+      (λ p. by-test (any n f) (λ q. let r = any-at n q in (r .0, omega arith, r .2)) (λ q. absurd (false≢true (sym (ap₂ _||_ q p) ∙ e))))
+
+-- tests that agree below n
+pub every-ext : (f g : ℕ → Bool) (n : ℕ) → ((i : ℕ) → i < n → f i ≡ g i) → every n f ≡ every n g
+every-ext f g zero h = refl
+every-ext f g (suc n) h = ap₂ _&&_ (every-ext f g n (λ i p. h i (omega arith))) (h n (omega arith))
+
+pub any-ext : (f g : ℕ → Bool) (n : ℕ) → ((i : ℕ) → i < n → f i ≡ g i) → any n f ≡ any n g
+any-ext f g zero h = refl
+any-ext f g (suc n) h = ap₂ _||_ (any-ext f g n (λ i p. h i (omega arith))) (h n (omega arith))
+
+-- none of the tests holds, or not each negated one
+de-morgan : (a b : Bool) → not (a || b) ≡ (not a && not b)
+de-morgan true b = refl
+de-morgan false b = refl
+
+pub not-any : (f : ℕ → Bool) (n : ℕ) → not (any n f) ≡ every n (λ i. not (f i))
+not-any f zero = refl
+not-any f (suc n) = de-morgan (any n f) (f n) ∙ ap (λ (b : Bool). b && not (f n)) (not-any f n)

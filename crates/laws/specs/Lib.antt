@@ -1,0 +1,4 @@
+-- The shared definitions.
+pub mod Tests
+pub mod Lists
+pub mod Bits

@@ -1,0 +1,3 @@
+//! The second compiler: written from the scope document alone, to hold the proved one against.
+
+pub mod job;
