@@ -1,3 +1,11 @@
 //! The second compiler: written from the scope document alone, to hold the proved one against.
 
+pub mod bank;
+pub mod book;
+pub mod cases;
+pub mod fast;
+pub mod generate;
 pub mod job;
+pub mod list;
+pub mod plain;
+pub mod stored;

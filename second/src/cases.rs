@@ -1,0 +1,102 @@
+//! The case table of the scope document, A to J: the sheet T and the jobs.
+
+use crate::job::Job;
+
+/// The order of T: x1 x2 x3 y1 x4 y2.
+pub const ORDER: [u8; 6] = [0, 1, 2, 128, 3, 129];
+
+/// Table 1 of document 000 as nine records. Input 0 is x1, output 0 is y1.
+#[rustfmt::skip]
+pub const T: [u8; 72] = [
+    // y1: x1x2x3 = 001 and 100 give 0.
+    0b0111, 0, 0b0100, 0, 1, 0, 0, 0,
+    0b0111, 0, 0b0001, 0, 1, 0, 0, 0,
+    // y1: x1x2x3 = 011, 101 and 110 give 1.
+    0b0111, 0, 0b0110, 0, 0, 1, 0, 0,
+    0b0111, 0, 0b0101, 0, 0, 1, 0, 0,
+    0b0111, 0, 0b0011, 0, 0, 1, 0, 0,
+    // y2: x2x3 = 00 gives 1, 01 gives 0.
+    0b0110, 0, 0b0000, 0, 0, 2, 0, 0,
+    0b0110, 0, 0b0100, 0, 2, 0, 0, 0,
+    // y2: x2x3x4 = 110 gives 0, 111 gives 1.
+    0b1110, 0, 0b0110, 0, 2, 0, 0, 0,
+    0b1110, 0, 0b1110, 0, 0, 2, 0, 0,
+];
+
+/// The truth table of document 000, x1x2x3x4 counted up with x1 most significant: the values of y1
+/// and of y2, 2 for d.
+pub const TRUTH: [[u8; 16]; 2] = [
+    [2, 2, 0, 0, 2, 2, 1, 1, 0, 0, 1, 1, 1, 1, 2, 2],
+    [1, 1, 0, 0, 2, 2, 0, 1, 1, 1, 0, 0, 2, 2, 0, 1],
+];
+
+/// T with cell limits K and L.
+pub fn t(cell_inputs: u64, cell_outputs: u64) -> Job {
+    Job {
+        inputs: 4,
+        outputs: 2,
+        cell_inputs,
+        cell_outputs,
+        order: ORDER.to_vec(),
+        sheet: T.to_vec(),
+    }
+}
+
+/// T, K 3, L 2. Cases I and J are this job with too little memory lent.
+pub fn a() -> Job {
+    t(3, 2)
+}
+
+/// T, K 3, L 3.
+pub fn b() -> Job {
+    t(3, 3)
+}
+
+/// T, K 4, L 2.
+pub fn c() -> Job {
+    t(4, 2)
+}
+
+/// T, K 2, L 2.
+pub fn d() -> Job {
+    t(2, 2)
+}
+
+/// T as sixteen full-mask records, with A's limits.
+pub fn e() -> Job {
+    let mut sheet = Vec::new();
+    for word in 0..16u8 {
+        // `word` has x1 most significant, the record x1 in its lowest bit.
+        let values = word.reverse_bits() >> 4;
+        let forced = |value: u8| {
+            let output = |y: usize| u8::from(TRUTH[y][usize::from(word)] == value) << y;
+            output(0) | output(1)
+        };
+        sheet.extend([0b1111, 0, values, 0, forced(0), forced(1), 0, 0]);
+    }
+    Job { sheet, ..a() }
+}
+
+/// Empty sheet, n 1, m 1, K 2, L 1, order x1 y1.
+pub fn f() -> Job {
+    Job {
+        inputs: 1,
+        outputs: 1,
+        cell_inputs: 2,
+        cell_outputs: 1,
+        order: vec![0, 128],
+        sheet: Vec::new(),
+    }
+}
+
+/// F's job, two mask-0 records, output 0 as 0 and as 1.
+pub fn g() -> Job {
+    let sheet = vec![0, 0, 0, 0, 1, 0, 0, 0, 0, 0, 0, 0, 0, 1, 0, 0];
+    Job { sheet, ..f() }
+}
+
+/// F's job with a sheet of so many zero bytes: 2,056 and 7 are the case.
+pub fn h(length: usize) -> Job {
+    let sheet = vec![0; length];
+    Job { sheet, ..f() }
+}

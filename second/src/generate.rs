@@ -1,0 +1,153 @@
+//! The seeded generator: jobs by family, lent memories, blocks and lists of bank calls.
+
+mod blocks;
+mod calls;
+mod damaged;
+mod pending;
+mod plain;
+mod random;
+mod sheet;
+mod wide;
+
+pub use blocks::{block, damage, StoredBlock};
+pub use calls::calls;
+pub use damaged::Fault;
+
+use crate::job::{Job, Lent, Node};
+use plain::Free;
+use random::Random;
+use sheet::Standing;
+
+/// A kind of job. In all but `SmallDamaged` job and sheet are in order (no refusal 1 to 6).
+#[derive(Clone, Copy, Debug, PartialEq, Eq)]
+pub enum Family {
+    /// n 1 to 5, m 1 to 4, most outputs forced for most words.
+    SmallFewFree,
+    /// The same sizes, most outputs free.
+    SmallManyFree,
+    /// The same sizes, few named inputs, outputs anywhere that refusal 6 allows.
+    SmallOrders,
+    /// Small jobs with one or two faults; the kinds of `Fault` come round with the index.
+    SmallDamaged,
+    /// n 6 to 9, m 2 to 6.
+    Medium,
+    /// One record with a full mask for each word, n 1 to 8, outputs at the bottom.
+    FullRows,
+    /// n 12, m 8, up to 256 records, most words forced.
+    LimitFewFree,
+    /// n 12, m 8, up to 256 records, most words free.
+    LimitManyFree,
+    /// 512 different columns at some height before its merge, and nowhere more.
+    Columns512,
+    /// 513 different columns at some height before its merge.
+    Columns513,
+    /// 500 to 520 different columns at some height before its merge, and nowhere more.
+    ColumnsAround,
+    /// K or L or both one too small for any cut list.
+    Tight,
+    /// K and L the least for which there is a cut list.
+    Loose,
+}
+
+impl Family {
+    pub const ALL: [Family; 13] = [
+        Family::SmallFewFree,
+        Family::SmallManyFree,
+        Family::SmallOrders,
+        Family::SmallDamaged,
+        Family::Medium,
+        Family::FullRows,
+        Family::LimitFewFree,
+        Family::LimitManyFree,
+        Family::Columns512,
+        Family::Columns513,
+        Family::ColumnsAround,
+        Family::Tight,
+        Family::Loose,
+    ];
+
+    pub fn name(self) -> &'static str {
+        match self {
+            Family::SmallFewFree => "small-few-free",
+            Family::SmallManyFree => "small-many-free",
+            Family::SmallOrders => "small-orders",
+            Family::SmallDamaged => "small-damaged",
+            Family::Medium => "medium",
+            Family::FullRows => "full-rows",
+            Family::LimitFewFree => "limit-few-free",
+            Family::LimitManyFree => "limit-many-free",
+            Family::Columns512 => "columns-512",
+            Family::Columns513 => "columns-513",
+            Family::ColumnsAround => "columns-around",
+            Family::Tight => "tight",
+            Family::Loose => "loose",
+        }
+    }
+
+    pub fn from_name(name: &str) -> Option<Family> {
+        Family::ALL.into_iter().find(|family| family.name() == name)
+    }
+}
+
+/// The job of this family, seed and index: always the same one.
+pub fn job(family: Family, seed: u64, index: u64) -> Job {
+    let random = &mut Random::new(family as u64, seed, index);
+    match family {
+        Family::SmallFewFree => plain::small(random, Free::Few, None),
+        Family::SmallManyFree => plain::small(random, Free::Many, None),
+        Family::SmallOrders => {
+            let free = random.pick(&[Free::Few, Free::Many]);
+            plain::small(random, free, Some(Standing::Anywhere))
+        }
+        Family::SmallDamaged => damaged::damaged(random, index),
+        Family::Medium => plain::medium(random),
+        Family::FullRows => plain::full_rows(random),
+        Family::LimitFewFree => plain::at_limits(random, Free::Few),
+        Family::LimitManyFree => plain::at_limits(random, Free::Many),
+        Family::Columns512 => wide::wide(random, 512),
+        Family::Columns513 => wide::wide(random, 513),
+        Family::ColumnsAround => {
+            let columns = random.within(500, 520);
+            wide::wide(random, columns)
+        }
+        Family::Tight => pending::pending(random, true),
+        Family::Loose => pending::pending(random, false),
+    }
+}
+
+/// A length one too short, exact, or too long.
+fn length(random: &mut Random, needed: usize) -> usize {
+    match random.below(10) {
+        0 | 1 => needed.saturating_sub(1),
+        2..=6 => needed,
+        7 => needed + 1,
+        _ => needed + random.within(1, 40),
+    }
+}
+
+/// Memory to lend for a job that needs so many nodes, record bytes and row bytes: random old contents, each
+/// of the three one too short, exact or too long.
+pub fn lent(job: &Job, seed: u64, index: u64, needed: (usize, usize, usize)) -> Lent {
+    let stream = job
+        .order
+        .iter()
+        .chain(&job.sheet)
+        .fold(300u64, |sum, byte| {
+            sum.wrapping_mul(257).wrapping_add(u64::from(*byte))
+        });
+    let random = &mut Random::new(stream, seed, index);
+    let node_count = length(random, needed.0);
+    let record_bytes = length(random, needed.1);
+    let row_bytes = length(random, needed.2);
+    Lent {
+        nodes: (0..node_count)
+            .map(|_| Node {
+                height: random.word(),
+                low: random.word(),
+                high: random.word(),
+            })
+            .collect(),
+        records: (0..record_bytes).map(|_| random.byte()).collect(),
+        rows: (0..row_bytes).map(|_| random.byte()).collect(),
+    }
+}

@@ -1,0 +1,148 @@
+//! Hand-made blocks in the stored form, and damage to them.
+
+use super::random::Random;
+
+/// Records and rows.
+pub type StoredBlock = (Vec<u8>, Vec<u8>);
+
+/// The variables of both kinds that a stored form may hold.
+fn variables() -> Vec<u8> {
+    (0..12).chain(128..136).collect()
+}
+
+/// A well-formed block of 1 to 20 records; one in four is large (most of them over 4,000 rows).
+pub fn block(seed: u64, index: u64) -> StoredBlock {
+    let mut random = Random::new(200, seed, index);
+    let large = random.percent(25);
+    let mut variables = variables();
+    random.shuffle(&mut variables);
+    if large {
+        variables.sort_by_key(|variable| *variable >= 128);
+    }
+    let count = if large {
+        random.within(12, 20)
+    } else {
+        random.within(1, 20)
+    };
+    variables.truncate(count);
+    let most_inputs = if large { 12 } else { random.within(3, 8) };
+    let mut cut_chance = random.pick(&[10, 30, 60, 100]);
+
+    let (mut records, mut rows) = (Vec::new(), Vec::new());
+    let (mut inputs, mut outputs) = (0, 0);
+    for (place, variable) in variables.iter().enumerate() {
+        if *variable < 128 {
+            inputs += 1;
+        } else {
+            outputs += 1;
+        }
+        let next = variables.get(place + 1);
+        let full = match next {
+            None => true,
+            Some(0..=127) => inputs == most_inputs,
+            Some(_) => outputs == 8,
+        };
+        if !full && !random.percent(cut_chance) {
+            records.extend([*variable, 0, 0, 0]);
+            continue;
+        }
+        // The cell below needs a place for one input more.
+        let most_rails = (8 - outputs).min(most_inputs - 1);
+        let rails = match next {
+            None => 0,
+            Some(_) if large => most_rails,
+            Some(_) => random.within(0, most_rails),
+        };
+        records.extend([*variable, 1, rails as u8, 0]);
+        let bound = 1usize << (outputs + rails);
+        rows.extend((0..1usize << inputs).map(|_| random.below(bound) as u8));
+        (inputs, outputs) = (rails, 0);
+        if large {
+            cut_chance = 0;
+        }
+    }
+    (records, rows)
+}
+
+/// One way to spoil a block; None where this block can't be spoilt so.
+fn spoilt(random: &mut Random, way: usize, block: &StoredBlock) -> Option<StoredBlock> {
+    let (mut records, mut rows) = block.clone();
+    let count = records.len() / 4;
+    let at = random.below(count) * 4;
+    let last = records.len() - 4;
+    let cuts: Vec<usize> = (0..count)
+        .map(|r| r * 4)
+        .filter(|r| records[r + 1] == 1)
+        .collect();
+    let inner = &cuts[..cuts.len() - 1];
+    match way {
+        0 => records.clear(),
+        1 => records.truncate(last + random.below(4)),
+        2 => records.extend(std::iter::repeat_n(0, random.within(1, 3))),
+        3 => {
+            while records.len() <= 80 {
+                let copied: [u8; 4] = [records[at], 0, 0, 0];
+                records.splice(0..0, copied);
+            }
+        }
+        4 => records[at] = random.pick(&[12, 13, 63, 127, 136, 200, 255]),
+        5 if count > 1 => {
+            let other = (at + 4 * random.within(1, count - 1)) % records.len();
+            records[at] = records[other];
+        }
+        6 => records[at + 1] = random.pick(&[2, 3, 128, 255]),
+        7 if records[at + 1] == 0 => records[at + 2] = random.pick(&[1, 8, 255]),
+        8 => records[at + 3] = random.pick(&[1, 2, 255]),
+        9 => records[last + 1] = 0,
+        10 => records[last + 2] = random.pick(&[1, 2, 9, 64, 255]),
+        11 if !inner.is_empty() => {
+            records[random.pick(inner) + 2] = random.pick(&[9, 12, 13, 32, 63, 64, 65, 128, 255])
+        }
+        12 if !inner.is_empty() => {
+            let rails = &mut records[random.pick(inner) + 2];
+            *rails = if *rails == 0 || random.coin() {
+                *rails + 1
+            } else {
+                *rails - 1
+            };
+        }
+        13 if !inner.is_empty() => {
+            let cut = random.pick(inner);
+            records[cut + 1] = 0;
+            records[cut + 2] = 0;
+        }
+        14 => rows.truncate(rows.len() - random.within(1, rows.len())),
+        15 => rows.extend(std::iter::repeat_n(0, random.within(1, 9))),
+        16 => {
+            let row = random.below(rows.len());
+            rows[row] = 255;
+        }
+        17 => {
+            let byte = random.below(records.len());
+            records[byte] = random.byte();
+        }
+        18 => {
+            records.resize(4 * random.within(1, 21), 0);
+            records.iter_mut().for_each(|byte| *byte = random.byte());
+        }
+        _ => return None,
+    }
+    Some((records, rows))
+}
+
+/// The number of ways `damage` knows.
+const WAYS: usize = 19;
+
+/// The block spoilt in a random way. Few come out well formed after all (a row or a byte that may be what it became).
+pub fn damage(seed: u64, index: u64, block: &StoredBlock) -> StoredBlock {
+    let mut random = Random::new(201, seed, index);
+    if block.0.len() < 4 || !block.0.len().is_multiple_of(4) || block.1.is_empty() {
+        return (vec![0; 3], Vec::new());
+    }
+    loop {
+        let way = random.below(WAYS);
+        if let Some(found) = spoilt(&mut random, way, block) {
+            return found;
+        }
+    }
+}

@@ -1,0 +1,95 @@
+//! Lists of calls on a bank: admissions, latches and steps, refused ones among them, broken off anywhere.
+
+use super::blocks::{damage, StoredBlock};
+use super::random::Random;
+use crate::book::Call;
+
+/// How many cells a well-formed block's records hold.
+fn cell_count(block: &StoredBlock) -> usize {
+    block.0.chunks(4).filter(|record| record[1] == 1).count()
+}
+
+fn admission(random: &mut Random, blocks: &[StoredBlock], damaged: usize) -> Call {
+    let (mut records, mut rows) = (Vec::new(), Vec::new());
+    if !blocks.is_empty() {
+        (records, rows) = blocks[random.below(blocks.len())].clone();
+        if random.percent(damaged) {
+            (records, rows) = damage(random.next(), 0, &(records, rows));
+        }
+    }
+    Call::Admit { records, rows }
+}
+
+fn latch(random: &mut Random) -> Call {
+    let high = random.pick(&[0, 0xF000, 0xFFFF]);
+    Call::Latch(std::array::from_fn(|_| random.word() & (0x0FFF | high)))
+}
+
+/// A scan limit S, a row memory length and a list of calls over the given well-formed blocks. S and the
+/// length are drawn around what some of the planned admissions need.
+pub fn calls(seed: u64, index: u64, blocks: &[StoredBlock]) -> (u8, usize, Vec<Call>) {
+    let mut random = Random::new(202, seed, index);
+    let damaged = random.pick(&[0, 20, 50]);
+    let mut calls = Vec::new();
+    if random.percent(20) {
+        calls.push(Call::Step);
+    }
+    let rounds = random.within(1, 12);
+    let opening = random.pick(&[0, 1, 2, 3, 8, 11]);
+    for _ in 0..opening {
+        calls.push(admission(&mut random, blocks, damaged));
+    }
+    for _ in 0..rounds {
+        match random.below(5) {
+            0 => calls.push(admission(&mut random, blocks, damaged)),
+            1 => calls.push(Call::Step),
+            _ => {
+                calls.push(latch(&mut random));
+                let most = random.pick(&[1, 4, 20, 40]);
+                let steps = random.within(0, most);
+                calls.extend(std::iter::repeat_n(Call::Step, steps));
+            }
+        }
+    }
+    if random.percent(20) {
+        calls.truncate(random.within(0, calls.len()));
+    }
+
+    let held: Vec<StoredBlock> = planned(&mut random, &calls, blocks);
+    let cells: usize = held.iter().map(cell_count).sum();
+    let rows: usize = held.iter().map(|block| block.1.len()).sum();
+    let limit = match random.below(6) {
+        0 => cells,
+        1 => cells.saturating_sub(1),
+        2 => random.within(1, 255),
+        _ => 255,
+    };
+    let row_memory = match random.below(6) {
+        0 => rows,
+        1 => rows.saturating_sub(1),
+        2 => rows + random.within(1, 300),
+        3 => random.within(0, rows),
+        _ => random.pick(&[32_768, 32_767, 33_000, 70_000]),
+    };
+    (limit.clamp(1, 255) as u8, row_memory, calls)
+}
+
+/// The first few undamaged blocks the list admits.
+fn planned(random: &mut Random, calls: &[Call], blocks: &[StoredBlock]) -> Vec<StoredBlock> {
+    let mut held = Vec::new();
+    for call in calls {
+        if let Call::Admit { records, rows } = call {
+            let block = (records.clone(), rows.clone());
+            if blocks.contains(&block) {
+                held.push(block);
+            }
+        }
+    }
+    let count = random.within(0, held.len().min(8));
+    if random.coin() {
+        held.truncate(8);
+    } else {
+        held.truncate(count);
+    }
+    held
+}

@@ -1,0 +1,232 @@
+//! The stored form of a cascade: its cells, whether it is well formed, reading, writing, and what it emits.
+
+pub const RECORD_BYTES: usize = 4;
+pub const MAX_RECORDS: usize = 20;
+pub const MAX_ROWS: usize = 32_768;
+/// Outputs stand in records as this number plus the output's own.
+pub const FIRST_OUTPUT: u8 = 128;
+
+/// One variable of the order, top first. `rails` are those of the cut directly below it.
+#[derive(Clone, Copy, Debug, PartialEq, Eq)]
+pub struct Record {
+    pub variable: u8,
+    pub cut: bool,
+    pub rails: u8,
+}
+
+/// Records and rows of any contents, not always well formed.
+#[derive(Clone, Debug, PartialEq, Eq)]
+pub struct Cascade {
+    pub records: Vec<Record>,
+    pub rows: Vec<u8>,
+}
+
+/// A cell of well-formed records: `length` records from record `top` on.
+#[derive(Clone, Debug, PartialEq, Eq)]
+pub struct Cell {
+    pub top: usize,
+    pub length: usize,
+    /// The variable bytes of its records, topmost first.
+    pub variables: Vec<u8>,
+    /// The numbers of its input variables, topmost first.
+    pub inputs: Vec<u8>,
+    /// The numbers of its output variables from 0, topmost first.
+    pub outputs: Vec<u8>,
+    pub upper_rails: usize,
+    pub lower_rails: usize,
+    pub rows: usize,
+}
+
+impl Cell {
+    pub const MAX_INPUTS: usize = 12;
+    pub const MAX_OUTPUTS: usize = 8;
+
+    fn open(top: usize, upper_rails: usize) -> Cell {
+        Cell {
+            top,
+            length: 0,
+            variables: Vec::new(),
+            inputs: Vec::new(),
+            outputs: Vec::new(),
+            upper_rails,
+            lower_rails: 0,
+            rows: 0,
+        }
+    }
+
+    /// Upper rails and input variables.
+    pub fn input_count(&self) -> usize {
+        self.upper_rails + self.inputs.len()
+    }
+
+    /// Output variables and lower rails.
+    pub fn output_count(&self) -> usize {
+        self.outputs.len() + self.lower_rails
+    }
+
+    pub fn bits(&self) -> usize {
+        self.rows * self.output_count()
+    }
+
+    /// The row that the rail word and the input word address, counted from the cell's first.
+    pub fn address(&self, rail: u16, word: u16) -> usize {
+        self.inputs.iter().fold(usize::from(rail), |address, &i| {
+            address << 1 | usize::from(word >> i & 1)
+        })
+    }
+
+    /// The output variables with their bits of a row, topmost first. Higher bits are passed over.
+    pub fn values(&self, row: u8) -> impl Iterator<Item = (usize, bool)> + '_ {
+        let places = (self.lower_rails..self.output_count()).rev();
+        self.outputs
+            .iter()
+            .zip(places)
+            .map(move |(&output, place)| (usize::from(output), row >> place & 1 == 1))
+    }
+
+    /// The rail word that a row hands to the next cell.
+    pub fn next_rail(&self, row: u8) -> u16 {
+        u16::from(row) & ((1 << self.lower_rails) - 1)
+    }
+}
+
+/// The cells, top first, when the records are well formed by themselves.
+pub fn cells(records: &[u8]) -> Option<Vec<Cell>> {
+    let whole = records.len() % RECORD_BYTES == 0;
+    if !whole || !(1..=MAX_RECORDS).contains(&(records.len() / RECORD_BYTES)) {
+        return None;
+    }
+    let mut seen = [false; 256];
+    let mut rows = 0;
+    let mut closed = Vec::new();
+    let mut cell = Cell::open(0, 0);
+    for (place, record) in records.chunks_exact(RECORD_BYTES).enumerate() {
+        let &[variable, cut, rails, 0] = record else {
+            return None;
+        };
+        if std::mem::replace(&mut seen[usize::from(variable)], true) {
+            return None;
+        }
+        match variable {
+            0..=11 => cell.inputs.push(variable),
+            128..=135 => cell.outputs.push(variable - FIRST_OUTPUT),
+            _ => return None,
+        }
+        cell.variables.push(variable);
+        cell.length += 1;
+        match (cut, rails) {
+            (0, 0) => {}
+            (1, _) => {
+                cell.lower_rails = usize::from(rails);
+                if cell.input_count() > Cell::MAX_INPUTS || cell.output_count() > Cell::MAX_OUTPUTS
+                {
+                    return None;
+                }
+                cell.rows = 1 << cell.input_count();
+                rows += cell.rows;
+                let next = Cell::open(place + 1, cell.lower_rails);
+                closed.push(std::mem::replace(&mut cell, next));
+            }
+            _ => return None,
+        }
+    }
+    // The cell left open must be an empty one with no rails above it. At most 8 rails and 12 inputs keep every
+    // single block below the row limit; the test stands as the rule does.
+    (cell.length == 0 && cell.upper_rails == 0 && rows <= MAX_ROWS).then_some(closed)
+}
+
+/// The cells, each with its rows, when the whole stored form is well formed.
+fn cells_with_rows<'a>(records: &[u8], rows: &'a [u8]) -> Option<Vec<(Cell, &'a [u8])>> {
+    let cells = cells(records)?;
+    if rows.len() != cells.iter().map(|cell| cell.rows).sum::<usize>() {
+        return None;
+    }
+    let mut rest = rows;
+    let mut pairs = Vec::with_capacity(cells.len());
+    for cell in cells {
+        let (own, after) = rest.split_at(cell.rows);
+        let limit = 1u16 << cell.output_count();
+        if own.iter().any(|&row| u16::from(row) >= limit) {
+            return None;
+        }
+        rest = after;
+        pairs.push((cell, own));
+    }
+    Some(pairs)
+}
+
+/// Whether records and rows together are well formed.
+pub fn well_formed(records: &[u8], rows: &[u8]) -> bool {
+    cells_with_rows(records, rows).is_some()
+}
+
+/// The cascade that the bytes hold, or 12 when they are not well formed.
+pub fn read(records: &[u8], rows: &[u8]) -> Result<Cascade, u8> {
+    if !well_formed(records, rows) {
+        return Err(12);
+    }
+    let records = records
+        .chunks_exact(RECORD_BYTES)
+        .map(|record| Record {
+            variable: record[0],
+            cut: record[1] == 1,
+            rails: record[2],
+        })
+        .collect();
+    Ok(Cascade {
+        records,
+        rows: rows.to_vec(),
+    })
+}
+
+/// Writes the stored form to the start of the lent memory and keeps the bytes past it. Refusals, in this
+/// order, change nothing: 12 not well formed, 10 `records` short, 11 `rows` short.
+pub fn write(cascade: &Cascade, records: &mut [u8], rows: &mut [u8]) -> Result<(), u8> {
+    let bytes: Vec<u8> = cascade
+        .records
+        .iter()
+        .flat_map(|record| [record.variable, u8::from(record.cut), record.rails, 0])
+        .collect();
+    if !well_formed(&bytes, &cascade.rows) {
+        return Err(12);
+    }
+    let records = records.get_mut(..bytes.len()).ok_or(10)?;
+    let rows = rows.get_mut(..cascade.rows.len()).ok_or(11)?;
+    records.copy_from_slice(&bytes);
+    rows.copy_from_slice(&cascade.rows);
+    Ok(())
+}
+
+/// The cells of a well-formed cascade, each with the row that an input word leads to.
+pub fn walk(records: &[u8], rows: &[u8], word: u16) -> Option<Vec<(Cell, u8)>> {
+    let mut rail = 0;
+    let mut visits = Vec::new();
+    for (cell, own) in cells_with_rows(records, rows)? {
+        let row = own[cell.address(rail, word)];
+        rail = cell.next_rail(row);
+        visits.push((cell, row));
+    }
+    Some(visits)
+}
+
+/// What a well-formed cascade emits for an input word, by output number; None for an output it does not have.
+pub fn emit(records: &[u8], rows: &[u8], word: u16) -> Option<[Option<bool>; 8]> {
+    let mut emitted = [None; 8];
+    for (cell, row) in walk(records, rows, word)? {
+        for (output, value) in cell.values(row) {
+            emitted[output] = Some(value);
+        }
+    }
+    Some(emitted)
+}
+
+/// The rail word below each cell of a well-formed cascade, top first; the last is 0.
+pub fn rail_words(records: &[u8], rows: &[u8], word: u16) -> Option<Vec<u16>> {
+    let visits = walk(records, rows, word)?;
+    Some(
+        visits
+            .iter()
+            .map(|(cell, row)| cell.next_rail(*row))
+            .collect(),
+    )
+}

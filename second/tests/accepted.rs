@@ -1,0 +1,106 @@
+//! What holds of every accepted job: emitted outputs are allowed, rails are the fewest, the stored form survives.
+
+use second::generate::{job, Family};
+use second::job::{Answer, Job, Lent, Node, Totals};
+use second::{fast, stored};
+
+const SEED: u64 = 2014;
+
+/// The bytes of an accepted job's cascade, and its totals.
+fn compiled(job: &Job) -> Option<(Totals, Vec<u8>, Vec<u8>)> {
+    let mut lent = Lent {
+        nodes: vec![Node::default(); 10_240],
+        records: vec![0; 80],
+        rows: vec![0; 32_768],
+    };
+    let Answer::Accepted(totals) = fast::compile(job, &mut lent) else {
+        return None;
+    };
+    lent.records.truncate(4 * job.order.len());
+    lent.rows.truncate(totals.rows);
+    Some((totals, lent.records, lent.rows))
+}
+
+/// What the sheet forces for a word: outputs forced to 0, and to 1.
+fn forced(job: &Job, word: u16) -> (u8, u8) {
+    let mut outputs = (0, 0);
+    for r in job.sheet.chunks_exact(8) {
+        let mask = u16::from_le_bytes([r[0], r[1]]);
+        if word & mask == u16::from_le_bytes([r[2], r[3]]) {
+            outputs = (outputs.0 | r[4], outputs.1 | r[5]);
+        }
+    }
+    outputs
+}
+
+/// Each output of the job is emitted, none else, and each value is allowed, for every word.
+fn allowed(job: &Job, records: &[u8], rows: &[u8]) {
+    for word in 0..1u16 << job.inputs {
+        let emitted = stored::emit(records, rows, word).expect("well formed");
+        let (zeros, ones) = forced(job, word);
+        for (output, value) in emitted.into_iter().enumerate() {
+            assert_eq!(value.is_some(), (output as u64) < job.outputs);
+            let forbidden = if value == Some(true) { zeros } else { ones };
+            assert!(
+                forbidden >> output & 1 == 0,
+                "output {output}, word {word}: {job:?}"
+            );
+        }
+    }
+}
+
+/// At each cut the rails hold every column number, and one fewer would not.
+fn rails_are_fewest(totals: &Totals, records: &[u8]) {
+    let top = records.len() / 4;
+    for (place, record) in records.chunks_exact(4).enumerate() {
+        if record[1] == 1 {
+            let width = usize::from(totals.widths[top - 1 - place]);
+            assert!(width <= 1 << record[2]);
+            assert!(record[2] == 0 || width > 1 << (record[2] - 1));
+        }
+    }
+}
+
+fn survives(records: &[u8], rows: &[u8]) {
+    assert!(stored::well_formed(records, rows));
+    let cascade = stored::read(records, rows).expect("well formed");
+    let (mut again, mut rows_again) = (vec![0; records.len()], vec![0; rows.len()]);
+    stored::write(&cascade, &mut again, &mut rows_again).expect("room");
+    assert!(again == records && rows_again == rows);
+    assert_eq!(stored::read(&again, &rows_again), Ok(cascade));
+}
+
+fn check(family: Family, jobs: u64) {
+    let mut accepted = 0;
+    for index in 0..jobs {
+        let job = job(family, SEED, index);
+        if let Some((totals, records, rows)) = compiled(&job) {
+            allowed(&job, &records, &rows);
+            rails_are_fewest(&totals, &records);
+            survives(&records, &rows);
+            accepted += 1;
+        }
+    }
+    println!("{}: {accepted} of {jobs} accepted", family.name());
+    assert!(accepted > 0);
+}
+
+#[test]
+fn small() {
+    for family in [
+        Family::SmallFewFree,
+        Family::SmallManyFree,
+        Family::SmallOrders,
+        Family::Loose,
+    ] {
+        check(family, 2_000);
+    }
+}
+
+#[test]
+fn larger() {
+    check(Family::Medium, 300);
+    check(Family::FullRows, 300);
+    check(Family::LimitFewFree, 25);
+    check(Family::LimitManyFree, 25);
+}

@@ -1,0 +1,163 @@
+//! Bank against book on random lists of calls, and what demand 3 says beside the book.
+
+use second::bank::{admit, latch, new_bank, step, Bank, Scan, Step, NOT_SET};
+use second::book::{Book, Call, Outputs, Said};
+use second::generate::{block, calls, job, Family, StoredBlock};
+use second::job::{Answer, Lent, Node};
+use second::{fast, stored};
+
+const SEED: u64 = 4711;
+
+/// A bank with its scan state and row memory.
+#[derive(Clone)]
+struct Panel {
+    bank: Bank,
+    scan: Scan,
+    rows: Vec<u8>,
+}
+
+impl Panel {
+    fn new(limit: u8, row_memory: usize) -> Panel {
+        let (bank, scan) = new_bank(u64::from(limit)).expect("S in range");
+        let rows = (0..row_memory).map(|i| (i * 37 + 11) as u8).collect();
+        Panel { bank, scan, rows }
+    }
+
+    fn call(&mut self, call: &Call) -> Said {
+        let plain = |answer: Result<(), u8>| answer.map_or_else(Said::Refused, |()| Said::Accepted);
+        match call {
+            Call::Admit { records, rows } => plain(admit(
+                &mut self.bank,
+                &mut self.scan,
+                &mut self.rows,
+                records,
+                rows,
+            )),
+            Call::Latch(words) => plain(latch(&self.bank, &mut self.scan, *words)),
+            Call::Step => match step(&self.bank, &mut self.scan, &self.rows) {
+                Step::Went { block, cell } => Said::Went { block, cell },
+                Step::Idle => Said::Idle,
+                Step::Refused(number) => Said::Refused(number),
+            },
+        }
+    }
+
+    fn outputs(&self) -> Outputs {
+        let value = |v: u8| (v != NOT_SET).then_some(v == 1);
+        let held = self.scan.outputs[..usize::from(self.bank.count)].iter();
+        held.map(|outputs| outputs.map(value)).collect()
+    }
+}
+
+/// Hand-made blocks and blocks that the compiler wrote.
+fn blocks(index: u64) -> Vec<StoredBlock> {
+    let mut blocks: Vec<_> = (0..3).map(|k| block(SEED, index * 3 + k)).collect();
+    let job = job(Family::SmallOrders, SEED, index);
+    let mut lent = Lent {
+        nodes: vec![Node::default(); 10_240],
+        records: vec![0; 80],
+        rows: vec![0; 32_768],
+    };
+    if let Answer::Accepted(totals) = fast::compile(&job, &mut lent) {
+        lent.records.truncate(4 * job.order.len());
+        lent.rows.truncate(totals.rows);
+        blocks.push((lent.records, lent.rows));
+    }
+    blocks
+}
+
+#[test]
+fn bank_answers_and_sets_what_the_book_does() {
+    let (mut lists, mut made, mut refused) = (0, 0, [0; 15]);
+    for index in 0..6_000 {
+        let (limit, row_memory, list) = calls(SEED, index, &blocks(index));
+        let mut panel = Panel::new(limit, row_memory);
+        let mut book = Book::new(limit, row_memory);
+        for call in &list {
+            let before = panel.clone();
+            let said = panel.call(call);
+            assert_eq!(said, book.enter(call), "list {index}");
+            assert_eq!(panel.outputs(), book.outputs(), "list {index}");
+            if let Said::Refused(number) = said {
+                refused[usize::from(number)] += 1;
+                assert!(panel.bank == before.bank && panel.scan == before.scan);
+                assert!(panel.rows == before.rows);
+            }
+            made += 1;
+        }
+        lists += 1;
+    }
+    println!("{lists} lists, {made} calls, refused by number {refused:?}");
+    assert!([11, 12, 13, 14].iter().all(|&n| refused[n] > 0));
+}
+
+/// Every scan makes the lesser of its steps and the cells of all blocks, which are at most S.
+#[test]
+fn a_scan_reads_as_many_cells_as_there_are() {
+    for index in 0..1_000 {
+        let (limit, row_memory, list) = calls(SEED, index, &blocks(index));
+        let mut panel = Panel::new(limit, row_memory);
+        let mut book = Book::new(limit, row_memory);
+        let mut scan: Option<(usize, usize)> = None;
+        for call in &list {
+            let said = panel.call(call);
+            book.enter(call);
+            match (call, said) {
+                (Call::Latch(_), _) => scan = Some((0, 0)),
+                (Call::Admit { .. }, Said::Accepted) => scan = None,
+                (Call::Step, _) => {
+                    if let Some((steps, reads)) = &mut scan {
+                        *steps += 1;
+                        *reads += usize::from(matches!(said, Said::Went { .. }));
+                        assert_eq!(*reads, book.cell_count().min(*steps));
+                    }
+                }
+                _ => {}
+            }
+            assert!(book.cell_count() <= usize::from(limit));
+        }
+    }
+}
+
+/// Bits that no cell read so far uses have no effect on what is set, in the latch or in the scan state, and the
+/// reads left emit what a run over the replaced words emits.
+#[test]
+fn unread_inputs_stand_as_they_like() {
+    for index in 0..1_000u64 {
+        let blocks = blocks(index);
+        let words: [u16; 8] =
+            std::array::from_fn(|b| (index * 977 + b as u64 * 331) as u16 & 0xFFF);
+        let flips: [u16; 8] = std::array::from_fn(|b| (index * 7919 + b as u64 * 127) as u16);
+        let mut panel = Panel::new(255, 40_000);
+        for (records, rows) in &blocks {
+            let (records, rows) = (records.clone(), rows.clone());
+            assert_eq!(panel.call(&Call::Admit { records, rows }), Said::Accepted);
+        }
+        let rest = panel.clone();
+        panel.call(&Call::Latch(words));
+        let mut used = [0u16; 8];
+        for _ in 0..index % 12 {
+            if let Said::Went { block, cell } = panel.call(&Call::Step) {
+                let cells = stored::cells(&blocks[usize::from(block)].0).expect("well formed");
+                for input in &cells[usize::from(cell)].inputs {
+                    used[usize::from(block)] |= 1 << input;
+                }
+            }
+        }
+        let replaced: [u16; 8] = std::array::from_fn(|b| words[b] ^ (flips[b] & !used[b]));
+        let mut again = rest;
+        again.call(&Call::Latch(replaced));
+        for _ in 0..index % 12 {
+            again.call(&Call::Step);
+        }
+        assert_eq!(panel.outputs(), again.outputs());
+        panel.scan.words = replaced;
+        for panel in [&mut panel, &mut again] {
+            while panel.call(&Call::Step) != Said::Idle {}
+            for (place, (records, rows)) in blocks.iter().enumerate() {
+                let emitted = stored::emit(records, rows, replaced[place]).expect("well formed");
+                assert_eq!(panel.outputs()[place], emitted);
+            }
+        }
+    }
+}

@@ -1,0 +1,122 @@
+//! plain against fast on random jobs of every family: every field of the answer and every byte of the lent memory.
+
+use second::generate::{job, lent, Family};
+use second::job::{Answer, Job, Lent, Node};
+use second::{fast, plain};
+use std::collections::BTreeMap;
+
+const SEED: u64 = 2007;
+
+/// Memory enough for every job, filled with a pattern.
+fn enough() -> Lent {
+    let node = |i: usize| Node {
+        height: i as u16,
+        low: 0xA000 | i as u16,
+        high: !(i as u16),
+    };
+    Lent {
+        nodes: (0..10_240).map(node).collect(),
+        records: vec![0x5A; 80],
+        rows: vec![0xA5; 32_768],
+    }
+}
+
+/// Both compilers on the same memory; the answer, after all is found equal.
+fn same(job: &Job, before: &Lent) -> Answer {
+    let (mut one, mut other) = (before.clone(), before.clone());
+    let answer = plain::compile(job, &mut one);
+    assert_eq!(answer, fast::compile(job, &mut other), "{job:?}");
+    assert!(one == other, "lent memory differs: {job:?}");
+    if matches!(answer, Answer::Refused(_)) {
+        assert!(one == *before, "a refusal changed lent memory: {job:?}");
+    }
+    answer
+}
+
+fn number(answer: Answer) -> u8 {
+    match answer {
+        Answer::Refused(number) => number,
+        Answer::Accepted(_) => 0,
+    }
+}
+
+/// So many jobs of a family, each with ample memory and with memories that are short, exact or long.
+/// Answers how often each refusal came; 0 stands for acceptance.
+fn compare(family: Family, jobs: u64) -> BTreeMap<u8, u64> {
+    let mut seen = BTreeMap::new();
+    let ample = enough();
+    for index in 0..jobs {
+        let job = job(family, SEED, index);
+        let answer = same(&job, &ample);
+        *seen.entry(number(answer)).or_default() += 1;
+        let needed = match answer {
+            Answer::Accepted(totals) => (totals.nodes, 4 * job.order.len(), totals.rows),
+            Answer::Refused(_) => (1, 1, 1),
+        };
+        let answer = same(&job, &lent(&job, SEED, index, needed));
+        if matches!(number(answer), 9..=11) {
+            *seen.entry(number(answer)).or_default() += 1;
+        }
+    }
+    println!("{}: {jobs} jobs, {seen:?}", family.name());
+    seen
+}
+
+/// The refusals that must have come, 0 for acceptance.
+fn reached(seen: &BTreeMap<u8, u64>, numbers: &[u8]) {
+    for number in numbers {
+        assert!(seen.contains_key(number), "no {number} in {seen:?}");
+    }
+}
+
+#[test]
+fn small_few_free() {
+    reached(&compare(Family::SmallFewFree, 4_000), &[0, 8, 9, 10, 11]);
+}
+
+#[test]
+fn small_many_free() {
+    reached(&compare(Family::SmallManyFree, 4_000), &[0, 9, 10, 11]);
+}
+
+#[test]
+fn small_orders() {
+    reached(&compare(Family::SmallOrders, 4_000), &[0, 8, 9, 10, 11]);
+}
+
+#[test]
+fn small_damaged() {
+    reached(&compare(Family::SmallDamaged, 6_000), &[1, 2, 3, 4, 5, 6]);
+}
+
+#[test]
+fn tight_and_loose() {
+    let tight = compare(Family::Tight, 2_000);
+    assert_eq!(tight.keys().collect::<Vec<_>>(), [&8]);
+    reached(&compare(Family::Loose, 2_000), &[0, 9, 10, 11]);
+}
+
+#[test]
+fn medium() {
+    reached(&compare(Family::Medium, 600), &[0, 8, 9, 10, 11]);
+}
+
+#[test]
+fn full_rows() {
+    reached(&compare(Family::FullRows, 600), &[0, 8, 9, 10, 11]);
+}
+
+#[test]
+fn limits() {
+    reached(&compare(Family::LimitFewFree, 60), &[0, 8]);
+    reached(&compare(Family::LimitManyFree, 60), &[0]);
+}
+
+#[test]
+fn columns() {
+    let most = compare(Family::Columns512, 40);
+    assert!(!most.contains_key(&7), "{most:?}");
+    let over = compare(Family::Columns513, 60);
+    assert_eq!(over.keys().collect::<Vec<_>>(), [&7]);
+    reached(&compare(Family::ColumnsAround, 40), &[7]);
+}

@@ -1,0 +1,58 @@
+//! A compiler with its scratch made allocates nothing.
+
+use second::fast::Compiler;
+use second::job::{Answer, Job, Lent, Node};
+use std::alloc::{GlobalAlloc, Layout, System};
+use std::sync::atomic::{AtomicUsize, Ordering};
+
+static ALLOCATED: AtomicUsize = AtomicUsize::new(0);
+
+struct Counting;
+
+// SAFETY: all calls go on to the system allocator unchanged.
+unsafe impl GlobalAlloc for Counting {
+    unsafe fn alloc(&self, layout: Layout) -> *mut u8 {
+        ALLOCATED.fetch_add(1, Ordering::SeqCst);
+        System.alloc(layout)
+    }
+
+    unsafe fn dealloc(&self, memory: *mut u8, layout: Layout) {
+        System.dealloc(memory, layout)
+    }
+}
+
+#[global_allocator]
+static COUNTING: Counting = Counting;
+
+#[test]
+fn compile_allocates_nothing() {
+    let mut compiler = Compiler::new();
+    let mut lent = Lent {
+        nodes: vec![Node::default(); 10_000],
+        records: vec![0; 80],
+        rows: vec![0; 32_768],
+    };
+    let mut job = Job {
+        inputs: 12,
+        outputs: 8,
+        cell_inputs: 12,
+        cell_outputs: 8,
+        order: (0..12).chain(128..136).collect(),
+        sheet: vec![],
+    };
+    let mut state = 12345u32;
+    for records in 0..=256 {
+        job.sheet.clear();
+        for record in 0..records {
+            state = state.wrapping_mul(1_664_525).wrapping_add(1_013_904_223);
+            let one = (state >> 24) as u8;
+            let value = ((record * 1021) % 4096) as u16;
+            let [a, b] = value.to_le_bytes();
+            job.sheet.extend([0xff, 0x0f, a, b, !one, one, 0, 0]);
+        }
+        let before = ALLOCATED.load(Ordering::SeqCst);
+        let answer = compiler.compile(&job, &mut lent);
+        assert_eq!(ALLOCATED.load(Ordering::SeqCst), before);
+        assert!(matches!(answer, Answer::Accepted(_)));
+    }
+}

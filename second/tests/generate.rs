@@ -1,0 +1,262 @@
+//! The generator: same seed same job, undamaged families in order, each fault present, column counts as promised.
+
+use second::book::{well_formed, Book, Call, Said};
+use second::generate::{block, calls, damage, job, lent, Family, Fault};
+use second::job::{Answer, Job, Lent, Node};
+use second::plain;
+use std::collections::BTreeSet;
+
+/// The refusals 1 to 6 that fit a job, each judged alone where that has a meaning.
+fn faults(job: &Job) -> BTreeSet<u8> {
+    let mut found = BTreeSet::new();
+    let (n, m) = (job.inputs, job.outputs);
+    let limits = (2..=12).contains(&job.cell_inputs) && (1..=8).contains(&job.cell_outputs);
+    let counts = (1..=12).contains(&n) && (1..=8).contains(&m);
+    if !limits || !counts {
+        found.insert(1);
+    }
+    if !job.sheet.len().is_multiple_of(8) || job.sheet.len() > 2_048 {
+        found.insert(3);
+    }
+    if !counts {
+        return found;
+    }
+    let mut sorted = job.order.clone();
+    sorted.sort_unstable();
+    let each_once = (0..n as u8).chain((0..m as u8).map(|y| 128 + y));
+    if !sorted.into_iter().eq(each_once) {
+        found.insert(2);
+    }
+    let records = records(job);
+    for r in &records {
+        let input_bits = r.mask >> n != 0;
+        let output_bits = u16::from(r.zeros | r.ones) >> m != 0;
+        if input_bits || output_bits || r.values & !r.mask != 0 || r.zeros & r.ones != 0 || r.tail {
+            found.insert(4);
+        }
+    }
+    for a in &records {
+        for b in &records {
+            if (a.values ^ b.values) & a.mask & b.mask == 0 && a.zeros & b.ones != 0 {
+                found.insert(5);
+            }
+        }
+    }
+    let place = |variable: u8| job.order.iter().position(|v| *v == variable);
+    for r in &records {
+        for y in (0..8).filter(|y| (r.zeros | r.ones) >> y & 1 == 1) {
+            for x in (0..16).filter(|x| r.mask >> x & 1 == 1) {
+                if let (Some(output), Some(input)) = (place(128 + y), place(x)) {
+                    if output < input {
+                        found.insert(6);
+                    }
+                }
+            }
+        }
+    }
+    found
+}
+
+struct Row {
+    mask: u16,
+    values: u16,
+    zeros: u8,
+    ones: u8,
+    tail: bool,
+}
+
+fn records(job: &Job) -> Vec<Row> {
+    let row = |r: &[u8]| Row {
+        mask: u16::from_le_bytes([r[0], r[1]]),
+        values: u16::from_le_bytes([r[2], r[3]]),
+        zeros: r[4],
+        ones: r[5],
+        tail: r[6] != 0 || r[7] != 0,
+    };
+    job.sheet.chunks_exact(8).map(row).collect()
+}
+
+/// The most columns at a height before its merge, as merging goes down; it ends where a count is over 512.
+fn peak(job: &Job) -> usize {
+    let widths = plain::widths_before_own_merges(job).expect("a job in order");
+    widths.into_iter().max().unwrap_or(0)
+}
+
+/// The number of the refusal with ample memory lent, 0 where there is none.
+fn refusal(job: &Job) -> u8 {
+    let mut lent = Lent {
+        nodes: vec![Node::default(); 10_240],
+        records: vec![0; 80],
+        rows: vec![0; 32_768],
+    };
+    match plain::compile(job, &mut lent) {
+        Answer::Refused(number) => number,
+        Answer::Accepted(_) => 0,
+    }
+}
+
+#[test]
+fn the_same_seed_gives_the_same() {
+    for family in Family::ALL {
+        assert_eq!(Family::from_name(family.name()), Some(family));
+        let list = |seed| (0..20).map(|i| job(family, seed, i)).collect::<Vec<_>>();
+        assert_eq!(list(7), list(7));
+        assert_ne!(list(7), list(8));
+        let one = job(family, 7, 3);
+        assert_eq!(lent(&one, 1, 2, (9, 8, 7)), lent(&one, 1, 2, (9, 8, 7)));
+    }
+    assert_eq!(block(1, 2), block(1, 2));
+    let given = [block(1, 2), block(1, 3)];
+    assert_eq!(calls(4, 5, &given), calls(4, 5, &given));
+    assert_eq!(damage(4, 5, &given[0]), damage(4, 5, &given[0]));
+}
+
+#[test]
+fn undamaged_families_are_in_order() {
+    for family in Family::ALL
+        .into_iter()
+        .filter(|f| *f != Family::SmallDamaged)
+    {
+        for index in 0..300 {
+            let job = job(family, 11, index);
+            assert!(faults(&job).is_empty(), "{family:?} {index}");
+        }
+    }
+}
+
+#[test]
+fn masks_overlap_often() {
+    for family in Family::ALL {
+        let overlaps = |index: &u64| {
+            let records = records(&job(family, 5, *index));
+            let shared =
+                |a: &Row, b: &Row| a.mask != b.mask && (a.values ^ b.values) & a.mask & b.mask == 0;
+            records.iter().any(|a| records.iter().any(|b| shared(a, b)))
+        };
+        let count = (0..200).filter(overlaps).count();
+        assert!(
+            family == Family::FullRows || count > 60,
+            "{family:?} {count}"
+        );
+    }
+}
+
+#[test]
+fn each_fault_occurs() {
+    let wanted = |fault: Fault| match fault as usize {
+        0..=3 => 1,
+        4..=7 => 2,
+        8..=9 => 3,
+        10..=14 => 4,
+        15 => 5,
+        _ => 6,
+    };
+    let round = Fault::ALL.len() as u64;
+    for (place, fault) in Fault::ALL.into_iter().enumerate() {
+        let (mut hit, mut alone) = (0, 0);
+        for index in (0..100).map(|i| i * round + place as u64) {
+            let found = faults(&job(Family::SmallDamaged, 3, index));
+            hit += usize::from(found.contains(&wanted(fault)));
+            alone += usize::from(found.first() == Some(&wanted(fault)));
+        }
+        assert!(hit >= 80 && alone >= 50, "{fault:?}: {hit} {alone}");
+    }
+    let jobs: Vec<Job> = (0..1700).map(|i| job(Family::SmallDamaged, 3, i)).collect();
+    assert!(jobs.iter().any(|j| j.inputs > u64::from(u32::MAX)));
+    assert!(jobs.iter().any(|j| j.inputs == 0) && jobs.iter().any(|j| j.cell_inputs == 1));
+    assert!(jobs.iter().any(|j| j.sheet.len() == 2_056));
+}
+
+#[test]
+fn column_counts_are_reached() {
+    let peaks = |family| {
+        let of = move |index| peak(&job(family, 1, index));
+        (0..60).map(of).collect::<BTreeSet<usize>>()
+    };
+    assert_eq!(peaks(Family::Columns512), BTreeSet::from([512]));
+    assert_eq!(peaks(Family::Columns513), BTreeSet::from([513]));
+    let around = peaks(Family::ColumnsAround);
+    assert!(around.is_subset(&(500..=520).collect()), "{around:?}");
+    assert!(around.len() > 12, "{around:?}");
+}
+
+#[test]
+fn families_at_the_limits_are_both_narrow_and_wide() {
+    // Merging keeps sheets with much freedom narrow.
+    for (family, least) in [(Family::LimitFewFree, 513), (Family::LimitManyFree, 150)] {
+        let peaks: Vec<usize> = (0..60).map(|i| peak(&job(family, 2, i))).collect();
+        let wide = peaks.iter().filter(|peak| **peak >= least).count();
+        assert!((1..40).contains(&wide), "{family:?} {peaks:?}");
+    }
+}
+
+#[test]
+fn tight_has_no_cut_list_and_loose_has_one() {
+    for index in 0..200 {
+        assert_eq!(refusal(&job(Family::Tight, 1, index)), 8, "tight {index}");
+        assert_eq!(refusal(&job(Family::Loose, 1, index)), 0, "loose {index}");
+    }
+}
+
+#[test]
+fn lent_memory_is_short_exact_and_long() {
+    let job = job(Family::Medium, 1, 1);
+    let mut seen = BTreeSet::new();
+    for index in 0..200 {
+        let memory = lent(&job, 1, index, (30, 40, 50));
+        let lengths = [
+            (memory.nodes.len(), 30),
+            (memory.records.len(), 40),
+            (memory.rows.len(), 50),
+        ];
+        for (which, (length, needed)) in lengths.into_iter().enumerate() {
+            assert!(length + 1 >= needed);
+            seen.insert((which, length.cmp(&needed)));
+        }
+    }
+    assert_eq!(seen.len(), 9);
+    assert!(lent(&job, 1, 1, (0, 0, 0)).nodes.len() < 100);
+}
+
+#[test]
+fn blocks_are_well_formed_and_damage_shows() {
+    let mut counts = BTreeSet::new();
+    let mut spoilt = 0;
+    for index in 0..2_000 {
+        let (records, rows) = block(9, index);
+        assert!(well_formed(&records, &rows), "{index}");
+        counts.insert(records.len() / 4);
+        let (records, rows) = damage(9, index, &(records, rows));
+        spoilt += usize::from(!well_formed(&records, &rows));
+    }
+    assert_eq!(counts.len(), 20);
+    assert!(spoilt > 1_800, "{spoilt}");
+}
+
+#[test]
+fn call_lists_meet_each_answer() {
+    let blocks: Vec<_> = (0..60).map(|index| block(4, index)).collect();
+    let mut refused = BTreeSet::new();
+    let (mut went, mut idle, mut broken_off, mut crowded) = (0, 0, 0, 0);
+    for index in 0..600 {
+        let given = &blocks[index % 50..][..1 + index % 10];
+        let (limit, row_memory, calls) = calls(6, index as u64, given);
+        assert!(limit > 0);
+        let mut book = Book::new(limit, row_memory);
+        for call in &calls {
+            match book.enter(call) {
+                Said::Refused(number) => {
+                    crowded += usize::from(number == 11 && row_memory > 40_000);
+                    refused.insert(number);
+                }
+                Said::Idle => idle += 1,
+                said => went += usize::from(matches!(call, Call::Step) && said != Said::Accepted),
+            }
+        }
+        broken_off += usize::from(!book.cells_to_read().is_empty());
+    }
+    assert_eq!(refused, BTreeSet::from([11, 12, 13, 14]));
+    let counts = (went, idle, broken_off, crowded);
+    let enough = went > 1_000 && idle > 500 && broken_off > 30 && crowded > 0;
+    assert!(enough, "{counts:?}");
+}

@@ -1,0 +1,86 @@
+//! The programs on good and on bad input: any bytes get an answer, never a panic.
+
+use second::cases;
+use second::generate::{job, Family};
+use second::job::Job;
+use second::{fast, list, plain};
+use std::io::Write;
+use std::process::{Command, Stdio};
+
+/// What a program prints on this input; it must end with exit status 0.
+fn run(program: &str, arguments: &[&str], input: &[u8]) -> String {
+    let mut child = Command::new(program)
+        .args(arguments)
+        .stdin(Stdio::piped())
+        .stdout(Stdio::piped())
+        .spawn()
+        .expect("the program starts");
+    let mut stdin = child.stdin.take().expect("piped");
+    let _ = stdin.write_all(input);
+    drop(stdin);
+    let output = child.wait_with_output().expect("the program ends");
+    assert!(output.status.success(), "{:?}", output.status);
+    String::from_utf8(output.stdout).expect("text")
+}
+
+fn raw(job: &Job) -> Vec<u8> {
+    let numbers = [job.inputs, job.outputs, job.cell_inputs, job.cell_outputs];
+    let mut bytes: Vec<u8> = numbers.iter().map(|&n| n as u8).collect();
+    bytes.extend(&job.order);
+    bytes.extend(&job.sheet);
+    bytes
+}
+
+const LIST: &str = env!("CARGO_BIN_EXE_second_list");
+const BANK: &str = env!("CARGO_BIN_EXE_second_bank");
+const JOBS: &str = env!("CARGO_BIN_EXE_second_jobs");
+
+#[test]
+fn the_listing_of_case_a() {
+    let listing = "5 2 1\n4 3 2\n3 4 2\n2 3 2\n1 2 1\n0 1 0\n\
+        cell 6 3 0 1 2 2 0 3 2 2\ncell 3 0 1 1 0 0 2 3 2 2\n";
+    assert_eq!(run(LIST, &[], &raw(&cases::a())), listing);
+    assert_eq!(run(LIST, &["fast"], &raw(&cases::a())), listing);
+}
+
+#[test]
+fn bad_input_is_refused() {
+    assert_eq!(run(LIST, &[], b""), "refused 1\n");
+    assert_eq!(run(LIST, &[], &[255; 70_000]), "refused 1\n");
+    assert_eq!(run(LIST, &[], &[1, 1, 2, 1, 0]), "refused 2\n");
+    let mut long = vec![1, 1, 2, 1, 0, 128];
+    long.resize(6 + 2_056, 0);
+    assert_eq!(run(LIST, &[], &long), "refused 3\n");
+    for length in 0..60 {
+        let bytes: Vec<u8> = (0..length).map(|i| (i * i + 7 * length) as u8).collect();
+        assert!(run(LIST, &[], &bytes).starts_with("refused "));
+        run(BANK, &[], &bytes);
+    }
+}
+
+/// The listing of every small job is the same by both compilers, and after the input is cut anywhere.
+#[test]
+fn listings_agree() {
+    for index in 0..2_000 {
+        let mut bytes = raw(&job(Family::SmallOrders, 5, index));
+        if index % 3 == 0 {
+            bytes.truncate(bytes.len() * (index as usize % 7) / 7);
+        }
+        let job = list::split(&bytes);
+        assert_eq!(
+            list::listing(&job, plain::compile),
+            list::listing(&job, fast::compile)
+        );
+    }
+}
+
+#[test]
+fn the_generator_writes_what_the_listing_reads() {
+    let output = Command::new(JOBS)
+        .args(["--raw", "loose", "3", "4"])
+        .output()
+        .expect("the program starts");
+    assert_eq!(list::split(&output.stdout), job(Family::Loose, 3, 4));
+    let refused = Command::new(JOBS).arg("nothing").output().expect("starts");
+    assert_eq!(refused.status.code(), Some(2));
+}
