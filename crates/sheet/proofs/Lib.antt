@@ -1,0 +1,3 @@
+-- The sheet layer's laws.
+pub mod Chi
+pub mod Examples
