@@ -1,0 +1,2 @@
+-- The reduction layer's laws.
+pub mod Examples

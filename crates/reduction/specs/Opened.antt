@@ -1,0 +1,12 @@
+-- Names every definition of the layer that computes: a proof that says `unfolding reductionOpened` computes with them all.
+-- Assumes nothing.
+use Rattle.reduction.specs.Columns.{sameLine, same, numberIn, firstsBelow, firsts, firstsAt, numberAt, width, layers}
+use Rattle.reduction.specs.Compatible.{compatibleLine, compatible}
+use Rattle.reduction.specs.Cover.{linked, edges, fewer, fewest, staying, candidates, grown, clique, leave, owned, rounds, cover}
+use Rattle.reduction.specs.Merge.{holds, product, graph, merge, mergeAt, merged, reduced, tooWide, refuse7}
+use Rattle.reduction.specs.Diagram.{nodesAbove, nodeOf, inputNode, outputNode, topValue, nodeAt, nodesTo, nodes}
+use Rattle.reduction.specs.Walk.{child, walk}
+
+unfoldable pub reductionOpened : Unit {0}
+unfolding sameLine same numberIn firstsBelow firsts firstsAt numberAt width layers compatibleLine compatible linked edges fewer fewest staying candidates grown clique leave owned rounds cover holds product graph merge mergeAt merged reduced tooWide refuse7 nodesAbove nodeOf inputNode outputNode topValue nodeAt nodesTo nodes child walk
+reductionOpened = tt
