@@ -1,0 +1,2 @@
+-- The cutting layer's laws.
+pub mod Examples

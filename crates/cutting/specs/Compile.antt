@@ -1,0 +1,108 @@
+-- The compiler: the answer and the lent memories after, for every job, sheet and memory (document 01, "Who can cause a refusal").
+-- Assumes nothing.
+use Prim.Native.Nat.{ℕ, suc, _*_}
+use mathlib.Core.Bool.{Bool, cond}
+use mathlib.Core.List.{List, map}
+use lib.Dec.{eqb, ltb}
+use lib.ListN.{length, take}
+use Rattle.laws.specs.Lists.{written}
+use Rattle.sheet.specs.Job.{Job, t}
+use Rattle.sheet.specs.Refusals.{sheetRefusal}
+use Rattle.sheet.specs.Table.{table}
+use Rattle.reduction.specs.Columns.{layers}
+use Rattle.reduction.specs.Merge.{reduced, refuse7}
+use Rattle.reduction.specs.Diagram.{nodes}
+use Rattle.reduction.specs.declared.Node.{Node}
+use Rattle.cutting.specs.Cells.{rowTotal, bitTotal}
+use Rattle.cutting.specs.Cuts.{cellsOf}
+use Rattle.cutting.specs.Choice.{chosen, refuse8}
+use Rattle.cutting.specs.Rows.{cascadeRows}
+use Rattle.cutting.specs.Stored.{stored}
+
+-- what is made of a sheet's function
+pub record Made : Type 0 where
+  pub widths : List ℕ
+  pub cuts : List ℕ
+  pub nodes : List Node
+  pub records : List ℕ
+  pub rows : List ℕ
+  pub cells : ℕ
+  pub bits : ℕ
+
+-- widths are those of the function after all merges, at the heights 0 to t
+unfoldable pub widthsOf : List (List ℕ) → List ℕ
+widthsOf ls = map length ls
+
+unfoldable pub made : Job → List ℕ → Made
+made j f₀ =
+    let f = reduced j f₀ in
+    let ls = layers j f in
+    let ws = widthsOf ls in
+    let cuts = chosen j ws in
+    record {
+      widths = ws;
+      cuts = cuts;
+      nodes = nodes j f ls;
+      records = stored j ws cuts;
+      rows = cascadeRows j f ls ws cuts;
+      cells = length (cellsOf j ws cuts);
+      bits = bitTotal (cellsOf j ws cuts);
+    }
+
+-- on acceptance the answer holds nodes, cells, rows, bits and every width, at the heights 0 to t - 1
+pub record Totals : Type 0 where
+  pub nodes : ℕ
+  pub cells : ℕ
+  pub rows : ℕ
+  pub bits : ℕ
+  pub widths : List ℕ
+
+pub data Answer : Type 0 where
+  refused : ℕ → Answer
+  accepted : Totals → Answer
+
+unfoldable pub totals : Job → Made → Totals
+totals j c =
+    record { nodes = length (c .nodes); cells = c .cells; rows = length (c .rows); bits = c .bits; widths = take (t j) (c .widths) }
+
+-- the answer, and what is lent after
+pub record Compiled : Type 0 where
+  pub answer : Answer
+  pub nodes : List Node
+  pub records : List ℕ
+  pub rows : List ℕ
+
+module _ (nodes : List Node) (records rows : List ℕ) where
+  -- nothing lent changes on a refusal
+  unfoldable pub refusal : ℕ → Compiled
+  refusal n = record { answer = refused n; nodes = nodes; records = records; rows = rows }
+
+  -- memory past the written part is kept
+  unfoldable pub acceptance : Job → Made → Compiled
+  acceptance j c =
+      record {
+        answer = accepted (totals j c);
+        nodes = written nodes 0 (c .nodes);
+        records = written records 0 (c .records);
+        rows = written rows 0 (c .rows);
+      }
+
+  -- 9: node table shorter than the nodes. 10: record buffer under 4 x t. 11: row memory short
+  unfoldable pub lend : Job → Made → Compiled
+  lend j c =
+      cond (ltb (length nodes) (length (c .nodes))) (refusal 9)
+      (cond (ltb (length records) (4 * t j)) (refusal 10)
+      (cond (ltb (length rows) (length (c .rows))) (refusal 11) (acceptance j c)))
+
+  -- f is the sheet's function: 7, 8, then what is lent
+  unfoldable pub reduce : Job → List ℕ → Compiled
+  reduce j f =
+      let c = made j f in
+      let r = cond (refuse8 j (c .widths)) (refusal 8) (lend j c) in
+      cond (refuse7 j f) (refusal 7) r
+
+  unfoldable pub compile : Job → List ℕ → Compiled
+  compile j s =
+      let n = sheetRefusal j s in
+      let r = reduce j (table j s) in
+      cond (eqb n 0) r (refusal n)
