@@ -1,0 +1,2 @@
+-- The bank layer's laws.
+pub mod Examples
