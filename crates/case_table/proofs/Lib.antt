@@ -1,0 +1,2 @@
+-- The case table, proved.
+pub mod Table

@@ -1,0 +1,33 @@
+-- The case table of document 01, proved: each case by computing with the definitions.
+-- Assumes nothing.
+use mathlib.Core.Path.{_≡_, refl}
+use Rattle.sheet.specs.Opened.{sheetOpened}
+use Rattle.reduction.specs.Opened.{reductionOpened}
+use Rattle.cutting.specs.Opened.{cuttingOpened}
+use Rattle.bank.specs.Opened.{bankOpened}
+use Rattle.case_table.specs.Table.{CaseTable}
+
+pub case-table : CaseTable
+unfolding sheetOpened reductionOpened cuttingOpened bankOpened
+case-table =
+    record {
+      A = refl;
+      A-listing = refl;
+      B = refl;
+      C = refl;
+      D = refl;
+      E = refl;
+      F = refl;
+      G = refl;
+      H-long = refl;
+      H-odd = refl;
+      I = refl;
+      J-rows = refl;
+      J-records = refl;
+      K = refl;
+      K-kept = refl;
+      K-book = refl;
+      L = refl;
+      L-rows = refl;
+      L-book = refl;
+    }

@@ -1,0 +1,59 @@
+-- The case table of document 01, A to L, as one statement.
+-- Assumes nothing.
+use mathlib.Core.Path.{_≡_}
+use mathlib.Core.List.{List, [], _∷_, _++_}
+use Prim.Native.Nat.{ℕ}
+use lib.ListN.{replicate, length}
+use Rattle.sheet.specs.Job.{Job}
+use Rattle.sheet.specs.Table.{table}
+use Rattle.cutting.specs.Compile.{made}
+use Rattle.cutting.specs.Listing.{listing}
+use Rattle.bank.specs.State.{State, fresh}
+use Rattle.bank.specs.Calls.{Answer, accepted, refused}
+use Rattle.bank.specs.Book.{newBook}
+use Rattle.bank.specs.Lists.{Call, admission, Entry, trace, bookTrace, stateAfter}
+use Rattle.sheet.specs.Example.{T, fullT, jobT, jobF, clashing}
+use Rattle.cutting.specs.Example.{recordsA, rowsA}
+use Rattle.case_table.specs.Lent.{oldBytes, lending}
+use Rattle.case_table.specs.Results.{resultA, listingA, resultB, resultC, resultF, refusedWith}
+
+-- A's block admitted twice, on row memory for both
+abbrev pub twice : List Call
+twice = admission recordsA rowsA ∷ admission recordsA rowsA ∷ []
+
+-- an answer with so many blocks held, nothing set
+abbrev pub entry : Answer → ℕ → Entry
+entry a k = record { answer = a; outputs = replicate k (replicate 8 2) }
+
+pub record CaseTable : Type 0 where
+  -- T, K 3, L 2: 15 nodes, the listing and the stored bytes
+  pub A : lending 15 24 16 (jobT 3 2) T ≡ resultA
+  pub A-listing : listing (jobT 3 2) (made (jobT 3 2) (table (jobT 3 2) T)) ≡ listingA
+  -- T, K 3, L 3: cut at 2
+  pub B : lending 15 24 16 (jobT 3 3) T ≡ resultB
+  -- T, K 4, L 2: one cell, 16 rows
+  pub C : lending 15 24 16 (jobT 4 2) T ≡ resultC
+  -- T, K 2, L 2: 8
+  pub D : lending 15 24 16 (jobT 2 2) T ≡ refusedWith 8 15 24 16
+  -- T as sixteen full-mask records: 6
+  pub E : lending 15 24 16 (jobT 3 2) fullT ≡ refusedWith 6 15 24 16
+  -- empty sheet: widths 1 and 1, rows 0 0
+  pub F : lending 3 9 3 jobF [] ≡ resultF
+  -- F's job, one output forced both ways by records that match every word: 5
+  pub G : lending 3 9 3 jobF clashing ≡ refusedWith 5 3 9 3
+  -- 2,056 bytes: 3; 7 bytes: 3
+  pub H-long : lending 3 9 3 jobF (replicate 2056 0) ≡ refusedWith 3 3 9 3
+  pub H-odd : lending 3 9 3 jobF (replicate 7 0) ≡ refusedWith 3 3 9 3
+  -- A with 14 nodes lent: 9
+  pub I : lending 14 24 16 (jobT 3 2) T ≡ refusedWith 9 14 24 16
+  -- A with 15 row bytes: 11; with 23 record bytes: 10
+  pub J-rows : lending 15 24 15 (jobT 3 2) T ≡ refusedWith 11 15 24 15
+  pub J-records : lending 15 23 16 (jobT 3 2) T ≡ refusedWith 10 15 23 16
+  -- S 3, A's block twice: admitted, then 14, and what is lent and held is then as it was
+  pub K : trace (fresh 3 (oldBytes 32)) twice ≡ entry accepted 1 ∷ entry (refused 14) 1 ∷ []
+  pub K-kept : stateAfter (fresh 3 (oldBytes 32)) twice ≡ stateAfter (fresh 3 (oldBytes 32)) (admission recordsA rowsA ∷ [])
+  pub K-book : bookTrace 3 32 newBook twice ≡ entry accepted 1 ∷ entry (refused 14) 1 ∷ []
+  -- S 4, the same: both
+  pub L : trace (fresh 4 (oldBytes 32)) twice ≡ entry accepted 1 ∷ entry accepted 2 ∷ []
+  pub L-rows : stateAfter (fresh 4 (oldBytes 32)) twice .rows ≡ rowsA ++ rowsA
+  pub L-book : bookTrace 4 32 newBook twice ≡ entry accepted 1 ∷ entry accepted 2 ∷ []
