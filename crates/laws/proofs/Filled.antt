@@ -1,15 +1,15 @@
 -- Laws of `filled` and `written`: a slice stored into from its front, and a part of it written over.
 -- Assumes nothing.
-use mathlib.Core.Path.{_≡_, refl, sym, _∙_, ap}
+use mathlib.Core.Path.{_≡_, refl, sym, _∙_, ap, ap₂}
 use mathlib.Core.List.{List, [], _∷_, _++_, append-nil, append-assoc}
 use Prim.Native.Nat.{ℕ, zero, suc, _+_, _-_, _<_, _≤_}
 use native.Mathlib.Nat.{add-zero}
 use native.Mathlib.Numerals.{add-one}
 use native.Mathlib.Omega.{arith}
 use lib.ListN.{length, getD, set, take, drop, length-append, length-take, length-drop, List·getD-append, take-append-drop}
-use lib.Seq.{drop-cons, set-at, append-snoc, getD-append-add, getD-drop, getD-take, set-getD, sets, sets-eq, take-at, drop-at}
+use lib.Seq.{drop-cons, set-at, append-snoc, getD-append-add, getD-drop, getD-take, set-getD, sets, sets-eq, take-at, drop-at, drop-drop}
 use Rattle.laws.specs.Lists.{tab, filled, written}
-use Rattle.laws.proofs.Lists.{length-tab, getD-tab}
+use Rattle.laws.proofs.Lists.{length-tab, getD-tab, tab-next}
 
 module _ {A : Type 0} (f : ℕ → A) where
   pub filled-none : (l : List A) → filled 0 f l ≡ l
@@ -78,3 +78,56 @@ module _ {A : Type 0} (l : List A) (i : ℕ) (vs : List A) (fits : i + length vs
 -- nothing written
 pub written-none : {A : Type 0} (l : List A) (i : ℕ) → written l i [] ≡ l
 written-none l i = rw append-nil (ap (λ (k : ℕ). take i l ++ drop k l) (add-zero i) ∙ take-append-drop i l)
+
+-- what is written ends where what is written next begins
+pub written-next : {A : Type 0} (l : List A) (i : ℕ) (a b : List A) → i + length a ≤ length l → written (written l i a) (i + length a) b ≡ written l i (a ++ b)
+written-next l i a b h =
+    let head : length (take i l ++ a) ≡ i + length a = simp (length-append, length-take) (omega arith) in
+    let front : take (i + length a) (written l i a) ≡ take i l ++ a = take-at (take i l ++ a) (drop (i + length a) l) (i + length a) head in
+    let total : i + length a + length b ≡ i + length (a ++ b) = simp length-append (omega arith) in
+    let back : drop (i + length a + length b) (written l i a) ≡ drop (i + length (a ++ b)) l =
+    sym (drop-drop (length b) (i + length a) (written l i a))
+    ∙ ap (λ (s : List _). drop (length b) s) (drop-at (take i l ++ a) (drop (i + length a) l) (i + length a) head)
+    ∙ drop-drop (length b) (i + length a) l
+    ∙ ap (λ (k : ℕ). drop k l) total in
+    ap₂ (λ (p q : List _). p ++ b ++ q) front back ∙ ap (λ (p : List _). p ++ drop (i + length (a ++ b)) l) (append-assoc (take i l) a b)
+
+-- one element more of what is written from place b on
+pub written-more : {A : Type 0} (g : ℕ → A) (l : List A) (b i : ℕ) (v : A) → v ≡ g i → b + i < length l
+    → set (written l b (tab i g)) (b + i) v ≡ written l b (tab (i + 1) g)
+written-more g l b i v e h =
+    let n : b + length (tab i g) ≡ b + i = ap (λ (k : ℕ). b + k) (length-tab g i) in
+    let head : length (take b l ++ tab i g) ≡ b + i = simp (length-append, length-take, length-tab) (omega arith) in
+    let cut : drop (b + length (tab i g)) l ≡ getD l (b + i) v ∷ drop (suc (b + i)) l = ap (λ (k : ℕ). drop k l) n ∙ drop-cons l (b + i) v h in
+    let last : suc (b + i) ≡ b + length (tab (i + 1) g) = simp length-tab (omega arith) in
+    ap (λ (s : List _). set (take b l ++ tab i g ++ s) (b + i) v) cut
+    ∙ set-at (take b l ++ tab i g) (getD l (b + i) v) (drop (suc (b + i)) l) v (b + i) head
+    ∙ sym (append-snoc (take b l ++ tab i g) v (drop (suc (b + i)) l))
+    ∙ ap₂ (λ (p q : List _). p ++ q) (append-assoc (take b l) (tab i g) (v ∷ []) ∙ ap (λ (p : List _). take b l ++ p) (ap (λ (x : _). tab i g ++ (x ∷ [])) e ∙ sym (tab-next g i))) (ap (λ (k : ℕ). drop k l) last)
+
+-- a run of stores after those from the front; a run that is left as it was
+module _ {A : Type 0} (f : ℕ → A) where
+  pub filled-run : (n c : ℕ) (l : List A) (g : ℕ → A) → ((i : ℕ) → i < c → g i ≡ f (n + i)) → n + c ≤ length l
+      → written (filled n f l) n (tab c g) ≡ filled (n + c) f l
+  filled-run n zero l g h b = written-none (filled n f l) n ∙ ap (λ (k : ℕ). filled k f l) (sym (add-zero n))
+  filled-run n (suc c) l g h b =
+      let e : n + suc c ≡ n + c + 1 = omega arith in
+      let m : n + c < length (filled n f l) = omega (arith, length-filled f n l (omega arith)) in
+      ap (λ (k : ℕ). written (filled n f l) n (tab k g)) (sym (add-one c))
+      ∙ sym (written-more g (filled n f l) n c (g c) refl m)
+      ∙ ap (λ (s : List A). set s (n + c) (g c)) (filled-run n c l g (λ i p. h i (omega arith)) (omega arith))
+      ∙ filled-more f (n + c) l (g c) (h c (omega arith)) (omega arith)
+      ∙ ap (λ (k : ℕ). filled k f l) (sym e)
+
+  pub filled-kept-run : (n c : ℕ) (l : List A) (d : A) → ((i : ℕ) → i < c → getD l (n + i) d ≡ f (n + i)) → n + c ≤ length l → filled n f l ≡ filled (n + c) f l
+  filled-kept-run n zero l d h b = ap (λ (k : ℕ). filled k f l) (sym (add-zero n))
+  filled-kept-run n (suc c) l d h b =
+      let e : n + suc c ≡ n + c + 1 = omega arith in
+      filled-kept-run n c l d (λ i p. h i (omega arith)) (omega arith)
+      ∙ filled-kept f (n + c) l d (h c (omega arith)) (omega arith) ∙ ap (λ (k : ℕ). filled k f l) (sym e)
+
+-- the element after what is written is as it was
+pub getD-written-next : {A : Type 0} (g : ℕ → A) (l : List A) (b i : ℕ) (d : A) → b + i ≤ length l → getD (written l b (tab i g)) (b + i) d ≡ getD l (b + i) d
+getD-written-next g l b i d h =
+    let e : b + length (tab i g) + 0 ≡ b + i = omega (arith, length-tab g i) in
+    ap (λ (k : ℕ). getD (written l b (tab i g)) k d) (sym e) ∙ getD-after l b (tab i g) (omega (arith, length-tab g i)) d 0 ∙ ap (λ (k : ℕ). getD l k d) e

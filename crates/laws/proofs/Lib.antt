@@ -5,4 +5,7 @@ pub mod Counts
 pub mod Find
 pub mod Lists
 pub mod Filled
+pub mod Puts
 pub mod Bits
+pub mod Powers
+pub mod Masks

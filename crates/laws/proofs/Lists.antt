@@ -6,12 +6,12 @@ use Prim.Native.Nat.{ℕ, zero, suc, _+_, _-_, _*_, _<_, _≤_}
 use native.Mathlib.Nat.{not-suc-le-zero, suc-mul, zero-mul, mul-le-mul-right}
 use native.Mathlib.Numerals.{add-one}
 use native.Mathlib.Omega.{arith}
-use lib.ListN.{length, getD, length-append, List·getD-append}
+use lib.ListN.{length, getD, length-append, List·getD-append, List·getD-eq-default}
 use lib.Seq.{getD-at, getD-append-add, ext-getD}
 use lib.Arith.{digits-lt}
 use Rattle.laws.specs.Tests.{sum}
 use Rattle.laws.specs.Lists.{tab, rect, joined}
-use Rattle.laws.proofs.Cases.{last-or-below}
+use Rattle.laws.proofs.Cases.{last-or-below, by-less}
 
 -- row i of n rows of k elements lies within all of them
 pub row-end : (i n k : ℕ) → i < n → i * k + k ≤ n * k
@@ -56,6 +56,27 @@ module _ {A : Type 0} (c : ℕ) (F : ℕ → ℕ → A) where
       ap (λ (i : ℕ). getD (rect m c F ++ tab c (F m)) (i + x) d) (ap (λ (i : ℕ). i * c) e ∙ sym (length-rect m))
       ∙ getD-append-add (rect m c F) (tab c (F m)) x d ∙ getD-tab (F m) d c x g ∙ ap (λ (i : ℕ). F i x) (sym e))
       (λ l. List·getD-append (rect m c F) (tab c (F m)) d (k * c + x) (rw length-rect (digits-lt l g)) ∙ getD-rect d m k x l g)
+
+-- two rectangles whose elements agree
+pub rect-ext : {A : Type 0} (F G : ℕ → ℕ → A) (m c : ℕ) → ((k x : ℕ) → k < m → x < c → F k x ≡ G k x) → rect m c F ≡ rect m c G
+rect-ext F G zero c h = refl
+rect-ext F G (suc m) c h =
+    ap₂ (λ (a b : List _). a ++ b) (rect-ext F G m c (λ k x p q. h k x (omega arith) q)) (tab-ext (F m) (G m) c (λ x q. h m x (omega arith) q))
+
+-- what holds of each element, and of what is read past the end, holds of all that is read
+module _ {A : Type 0} (P : A → Type 0) (d : A) (past : P d) where
+  pub tab-each : (f : ℕ → A) → ((i : ℕ) → P (f i)) → (n i : ℕ) → P (getD (tab n f) i d)
+  tab-each f h n i =
+      by-less i n (λ l. rw (getD-tab f d n i l) (h i)) (λ l. rw (List·getD-eq-default (tab n f) d {n = i} (omega (arith, length-tab f n))) past)
+
+  pub rect-each : (F : ℕ → ℕ → A) → ((k x : ℕ) → P (F k x)) → (m c i : ℕ) → P (getD (rect m c F) i d)
+  rect-each F h zero c i = rw (List·getD-eq-default {A = A} [] d {n = i} (omega arith)) past
+  rect-each F h (suc m) c i =
+      by-less i (length (rect m c F)) (λ l. rw (List·getD-append (rect m c F) (tab c (F m)) d i l) (rect-each F h m c i))
+      (λ l.
+      let e : i ≡ length (rect m c F) + (i - length (rect m c F)) = omega arith in
+      rw (ap (λ (k : ℕ). getD (rect m c F ++ tab c (F m)) k d) e ∙ getD-append-add (rect m c F) (tab c (F m)) (i - length (rect m c F)) d)
+      (tab-each (F m) (h m) c (i - length (rect m c F))))
 
 module _ {A : Type 0} (f : ℕ → List A) where
   pub length-joined : (n : ℕ) → length (joined n f) ≡ sum n (λ i. length (f i))

@@ -2,7 +2,7 @@
 -- Assumes nothing.
 use Prim.Native.Nat.{ℕ, zero, suc, _+_, _*_}
 use mathlib.Core.List.{List, [], _∷_, _++_}
-use lib.ListN.{length, take, drop}
+use lib.ListN.{length, take, drop, set}
 
 -- f 0, f 1, .., f (n - 1)
 abbrev pub tab : {A : Type 0} → ℕ → (ℕ → A) → List A
@@ -26,3 +26,12 @@ filled n f l = tab n f ++ drop n l
 -- the list l after vs is stored from place i on
 abbrev pub written : {A : Type 0} → List A → ℕ → List A → List A
 written l i vs = take i l ++ vs ++ drop (i + length vs) l
+
+-- the list l after f 0, .., f (n - 1) are stored one after another at 0, 1, ..; at b, b + 1, ... A store past the end changes nothing
+unfoldable pub puts : {A : Type 0} → ℕ → (ℕ → A) → List A → List A
+puts zero f l = l
+puts (suc n) f l = set (puts n f l) n (f n)
+
+unfoldable pub putsAt : {A : Type 0} → ℕ → ℕ → (ℕ → A) → List A → List A
+putsAt b zero f l = l
+putsAt b (suc n) f l = set (putsAt b n f l) (b + n) (f n)

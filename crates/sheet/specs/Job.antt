@@ -16,6 +16,9 @@ pub record Job : Type 0 where
   pub L : ℕ
   pub order : List ℕ
 
+abbrev pub job : ℕ → ℕ → ℕ → ℕ → List ℕ → Job
+job n m k l order = record { n = n; m = m; K = k; L = l; order = order }
+
 -- t = n + m
 abbrev pub t : Job → ℕ
 t j = j .n + j .m
@@ -38,21 +41,27 @@ ins j h = count h (λ k. isInput (varAt j (suc k)))
 unfoldable pub outs : Job → ℕ → ℕ
 outs j h = count h (λ k. not (isInput (varAt j (suc k))))
 
--- the inputs, and the outputs, at heights h to 1, lowest first
-unfoldable pub inputsTo : Job → ℕ → List ℕ
-inputsTo j zero = []
-inputsTo j (suc h) = let v = varAt j (suc h) in let l = inputsTo j h in cond (isInput v) (l ++ (v ∷ [])) l
+-- the inputs, and the outputs, at heights h to 1 of an order of t variables, lowest first
+unfoldable pub inputsTo : ℕ → List ℕ → ℕ → List ℕ
+inputsTo t order zero = []
+inputsTo t order (suc h) =
+    let v = getD order (t - suc h) 0 in
+    let l = inputsTo t order h in
+    cond (isInput v) (l ++ (v ∷ [])) l
 
-unfoldable pub outputsTo : Job → ℕ → List ℕ
-outputsTo j zero = []
-outputsTo j (suc h) = let v = varAt j (suc h) in let l = outputsTo j h in cond (isInput v) l (l ++ ((v - 128) ∷ []))
+unfoldable pub outputsTo : ℕ → List ℕ → ℕ → List ℕ
+outputsTo t order zero = []
+outputsTo t order (suc h) =
+    let v = getD order (t - suc h) 0 in
+    let l = outputsTo t order h in
+    cond (isInput v) l (l ++ ((v - 128) ∷ []))
 
 -- all inputs, and all outputs, lowest first
-unfoldable pub inputList : Job → List ℕ
-inputList j = inputsTo j (t j)
+abbrev pub inputList : Job → List ℕ
+inputList j = inputsTo (t j) (j .order) (t j)
 
-unfoldable pub outputList : Job → List ℕ
-outputList j = outputsTo j (t j)
+abbrev pub outputList : Job → List ℕ
+outputList j = outputsTo (t j) (j .order) (t j)
 
 -- The inputs of a word are read as a number, topmost input most significant: bit k of the number is the kth lowest input.
 -- The word of a number, and the number of a word; is are the inputs, lowest first

@@ -5,5 +5,7 @@ pub mod Values
 pub mod Refusals
 pub mod Table
 pub mod Characteristic
+pub mod Pairs
+pub mod Planes
 pub mod Example
 pub mod Opened

@@ -12,17 +12,26 @@ use Rattle.sheet.specs.Job.{Job, t, outputByte}
 use Rattle.sheet.specs.Values.{named}
 
 -- 1: n, m, K or L out of range
+unfoldable pub outOfRange : ℕ → ℕ → ℕ → ℕ → Bool
+outOfRange n m k l = not (within 1 12 n && within 1 8 m && within 2 12 k && within 1 8 l)
+
 unfoldable pub refuse1 : Job → Bool
-refuse1 j = not (within 1 12 (j .n) && within 1 8 (j .m) && within 2 12 (j .K) && within 1 8 (j .L))
+refuse1 j = outOfRange (j .n) (j .m) (j .K) (j .L)
 
 -- how often the byte v stands in the order
-unfoldable pub times : Job → ℕ → ℕ
-times j v = count (length (j .order)) (λ i. eqb (getD (j .order) i 0) v)
+unfoldable pub times : List ℕ → ℕ → ℕ
+times order v = count (length order) (λ i. eqb (getD order i 0) v)
+
+-- each of the k variables from v on stands in it once
+unfoldable pub eachOnce : List ℕ → ℕ → ℕ → Bool
+eachOnce order v k = every k (λ i. eqb (times order (v + i)) 1)
 
 -- 2: the order is not each variable once
+unfoldable pub notEachOnce : ℕ → ℕ → List ℕ → Bool
+notEachOnce n m order = not (eqb (length order) (n + m) && eachOnce order 0 n && eachOnce order 128 m)
+
 unfoldable pub refuse2 : Job → Bool
-refuse2 j =
-    not (eqb (length (j .order)) (t j) && every (j .n) (λ i. eqb (times j i) 1) && every (j .m) (λ o. eqb (times j (outputByte o)) 1))
+refuse2 j = notEachOnce (j .n) (j .m) (j .order)
 
 -- 3: length not a multiple of 8, or over 2,048
 unfoldable pub refuse3 : List ℕ → Bool
@@ -39,8 +48,11 @@ malformed n m s r =
     && eqb (byte s r 7) 0)
 
 -- 4: such a record
+unfoldable pub anyMalformed : ℕ → ℕ → List ℕ → Bool
+anyMalformed n m s = any (recordCount s) (malformed n m s)
+
 unfoldable pub refuse4 : Job → List ℕ → Bool
-refuse4 j s = any (recordCount s) (malformed (j .n) (j .m) s)
+refuse4 j s = anyMalformed (j .n) (j .m) s
 
 -- records r and q match a common word; r forces an output to 0 that q forces to 1
 unfoldable pub common : ℕ → List ℕ → ℕ → ℕ → Bool
@@ -56,9 +68,12 @@ clash n m s r q = opposed m s r q && common n s r q
 unfoldable pub refuse5 : Job → List ℕ → Bool
 refuse5 j s = any (recordCount s) (λ r. any (recordCount s) (clash (j .n) (j .m) s r))
 
--- the height of the variable v in the order
+-- the place of the variable v in the order from the top, and its height
+unfoldable pub placeOf : List ℕ → ℕ → ℕ
+placeOf order v = least (length order) (λ i. eqb (getD order i 0) v)
+
 unfoldable pub heightOf : Job → ℕ → ℕ
-heightOf j v = t j - least (length (j .order)) (λ i. eqb (getD (j .order) i 0) v)
+heightOf j v = t j - placeOf (j .order) v
 
 -- output o stands above an input named for it
 unfoldable pub aboveNamed : Job → List ℕ → ℕ → ℕ → Bool

@@ -1,1 +1,58 @@
-// The sheet layer: records, job and order, refusals 1 to 6 and the table of the function. So far its definitions (specs/) and laws (proofs/).
+// The sheet layer: refusals 1 to 6 of a job and its sheet, and the table of the function.
+mod lines;
+mod numbers;
+mod order;
+mod pairs;
+mod planes;
+mod records;
+
+ghost use mathlib.Core.Path.{_≡_};
+ghost use Prim.Native.Nat.{ℕ};
+ghost use Rattle.sheet.specs.Job.{job};
+ghost use Rattle.sheet.specs.Refusals.{sheetRefusal};
+ghost use Rattle.sheet.specs.Table.{tableAfter};
+
+// The least of refusals 1 to 6 that the job and its sheet are given; 0 where there is none.
+pub fn refusal(n: usize, m: usize, k: usize, l: usize, order: &[u8], sheet: &[u8]) -> u8
+    ensures { λ r. ⌜ r ≡ sheetRefusal (job n m k l (now (order .entry))) (now (sheet .entry)) ⌝ }
+{
+    if order::out_of_range(n, m, k, l) {
+        return 1;
+    }
+    if order::not_each_once(n, m, order) {
+        return 2;
+    }
+    if records::length_refused(sheet) {
+        return 3;
+    }
+    if records::any_malformed(n, m, sheet) {
+        return 4;
+    }
+    if pairs::any_hit(sheet) {
+        return 5;
+    }
+    if pairs::any_crosses(n, m, order, sheet) {
+        return 6;
+    }
+    0
+}
+
+// The same. Where the answer is 0 the table of the function is written to the front of the lent one.
+pub fn fill_table(
+    n: usize,
+    m: usize,
+    k: usize,
+    l: usize,
+    order: &[u8],
+    sheet: &[u8],
+    table: &mut [u8; 32768],
+) -> u8
+    ensures { λ r. ⌜ r ≡ sheetRefusal (job n m k l (now (order .entry))) (now (sheet .entry)) ⌝ }
+    ensures { λ r. ⌜ now (table .exit) ≡ tableAfter (job n m k l (now (order .entry))) (now (sheet .entry)) (now (table .entry)) ⌝ }
+{
+    let r = refusal(n, m, k, l, order, sheet);
+    if r == 0 {
+        lines::write(n, m, order, sheet, table);
+    }
+    r
+}

@@ -1,0 +1,128 @@
+-- Laws of `puts` and `putsAt`: stores one after another into a list of any length, as a loop over an array makes them.
+-- Assumes nothing.
+use mathlib.Core.Path.{_≡_, refl, sym, _∙_, ap, ap₂}
+use mathlib.Core.List.{List, [], _∷_, _++_}
+use Prim.Native.Nat.{ℕ, zero, suc, _+_, _*_, _<_, _≤_}
+use native.Mathlib.Nat.{not-suc-le-zero, add-zero}
+use native.Mathlib.Numerals.{add-one}
+use native.Mathlib.Omega.{arith}
+use lib.ListN.{length, getD, set, length-set, length-append}
+use lib.Seq.{getD-set-same, getD-set-other, set-getD, sets, ext-getD}
+use Rattle.laws.specs.Lists.{tab, rect, filled, puts, putsAt}
+use Rattle.laws.proofs.Cases.{last-or-below, by-less}
+use Rattle.laws.proofs.Lists.{length-tab, length-rect, tab-next}
+use Rattle.laws.proofs.Filled.{filled-more}
+
+module _ {A : Type 0} (f : ℕ → A) where
+  pub puts-none : (l : List A) → puts 0 f l ≡ l
+  unfolding puts
+  puts-none l = refl
+
+  -- one store more
+  pub puts-next : (n : ℕ) (l s : List A) (v : A) → s ≡ puts n f l → v ≡ f n → set s n v ≡ puts (n + 1) f l
+  unfolding puts putsAt
+  puts-next n l s v p q = rw (p, q, add-one n) refl
+
+  pub length-puts : (n : ℕ) (l : List A) → length (puts n f l) ≡ length l
+  unfolding puts putsAt
+  length-puts zero l = refl
+  length-puts (suc n) l = length-set (puts n f l) n (f n) ∙ length-puts n l
+
+  -- what is stored, and what is not stored to
+  pub getD-puts : (n : ℕ) (l : List A) (d : A) (i : ℕ) → i < n → i < length l → getD (puts n f l) i d ≡ f i
+  unfolding puts putsAt
+  getD-puts zero l d i h b = absurd (not-suc-le-zero h)
+  getD-puts (suc n) l d i h b =
+      last-or-below i n h
+      (λ e.
+      let b′ : n < length (puts n f l) = omega (arith, length-puts n l) in
+      ap (λ (k : ℕ). getD (puts (suc n) f l) k d) e ∙ getD-set-same (puts n f l) n (f n) d b′ ∙ ap f (sym e))
+      (λ k. getD-set-other (puts n f l) n i (f n) d (λ e. absurd (omega arith)) ∙ getD-puts n l d i k b)
+
+  pub getD-unput : (n : ℕ) (l : List A) (d : A) (i : ℕ) → n ≤ i → getD (puts n f l) i d ≡ getD l i d
+  unfolding puts putsAt
+  getD-unput zero l d i h = refl
+  getD-unput (suc n) l d i h = getD-set-other (puts n f l) n i (f n) d (λ e. absurd (omega arith)) ∙ getD-unput n l d i (omega arith)
+
+  -- a list long enough
+  pub puts-filled : (n : ℕ) (l : List A) → n ≤ length l → puts n f l ≡ filled n f l
+  unfolding puts putsAt
+  puts-filled zero l h = refl
+  puts-filled (suc n) l h =
+      ap (λ (s : List A). set s n (f n)) (puts-filled n l (omega arith)) ∙ filled-more f n l (f n) refl h ∙ ap (λ (k : ℕ). filled k f l) (add-one n)
+
+  -- a run of stores more; a run that is left as it was
+  pub puts-run : (n c : ℕ) (l : List A) (g : ℕ → A) → ((i : ℕ) → i < c → g i ≡ f (n + i)) → putsAt n c g (puts n f l) ≡ puts (n + c) f l
+  unfolding puts putsAt
+  puts-run n zero l g h = ap (λ (k : ℕ). puts k f l) (sym (add-zero n))
+  puts-run n (suc c) l g h =
+      let e : n + suc c ≡ n + c + 1 = omega arith in
+      puts-next (n + c) l (putsAt n c g (puts n f l)) (g c) (puts-run n c l g (λ i p. h i (omega arith))) (h c (omega arith)) ∙ ap (λ (k : ℕ). puts k f l) (sym e)
+
+  pub puts-kept : (n c : ℕ) (l : List A) (d : A) → ((i : ℕ) → i < c → getD l (n + i) d ≡ f (n + i)) → puts n f l ≡ puts (n + c) f l
+  unfolding puts putsAt
+  puts-kept n zero l d h = ap (λ (k : ℕ). puts k f l) (sym (add-zero n))
+  puts-kept n (suc c) l d h =
+      let e : n + suc c ≡ n + c + 1 = omega arith in
+      let v : getD (puts (n + c) f l) (n + c) d ≡ f (n + c) = getD-unput (n + c) l d (n + c) (omega arith) ∙ h c (omega arith) in
+      puts-kept n c l d (λ i p. h i (omega arith)) ∙ sym (set-getD (puts (n + c) f l) (n + c) d)
+      ∙ puts-next (n + c) l (puts (n + c) f l) (getD (puts (n + c) f l) (n + c) d) refl v ∙ ap (λ (k : ℕ). puts k f l) (sym e)
+
+-- stores over stores
+pub puts-over : {A : Type 0} (f g h : ℕ → A) (n : ℕ) (l : List A) (d : A) → ((i : ℕ) → i < n → i < length l → g i ≡ h i) → puts n g (puts n f l) ≡ puts n h l
+puts-over f g h n l d e =
+    let long : length (puts n g (puts n f l)) ≡ length l = length-puts g n (puts n f l) ∙ length-puts f n l in
+    ext-getD d (puts n g (puts n f l)) (puts n h l) (long ∙ sym (length-puts h n l))
+    (λ i p.
+    let b : i < length l = omega arith in
+    by-less i n
+    (λ k. getD-puts g n (puts n f l) d i k (omega (arith, length-puts f n l)) ∙ e i k b ∙ sym (getD-puts h n l d i k b))
+    (λ k. getD-unput g n (puts n f l) d i k ∙ getD-unput f n l d i k ∙ sym (getD-unput h n l d i k)))
+
+-- stores of what stands there
+pub puts-same : {A : Type 0} (f : ℕ → A) (n : ℕ) (l : List A) (d : A) → ((i : ℕ) → i < n → getD l i d ≡ f i) → l ≡ puts n f l
+puts-same f n l d h =
+    let z : (i : ℕ) → 0 + i ≡ i = λ i. omega arith in
+    sym (puts-none f l) ∙ puts-kept f 0 n l d (λ i p. ap (λ (k : ℕ). getD l k d) (z i) ∙ h i p ∙ ap f (sym (z i))) ∙ ap (λ (k : ℕ). puts k f l) (z n)
+
+-- two functions that agree below n
+pub puts-ext : {A : Type 0} (f g : ℕ → A) (n : ℕ) (l : List A) → ((i : ℕ) → i < n → f i ≡ g i) → puts n f l ≡ puts n g l
+unfolding puts putsAt
+puts-ext f g zero l h = refl
+puts-ext f g (suc n) l h = ap₂ (λ (s : List _) (v : _). set s n v) (puts-ext f g n l (λ i p. h i (omega arith))) (h n (omega arith))
+
+-- stores from place b on
+module _ {A : Type 0} (f : ℕ → A) (b : ℕ) where
+  pub putsAt-none : (l : List A) → putsAt b 0 f l ≡ l
+  unfolding putsAt
+  putsAt-none l = refl
+
+  pub putsAt-next : (n : ℕ) (l s : List A) (v : A) → s ≡ putsAt b n f l → v ≡ f n → set s (b + n) v ≡ putsAt b (n + 1) f l
+  unfolding puts putsAt
+  putsAt-next n l s v p q = rw (p, q, add-one n) refl
+
+  pub getD-unputAt : (n : ℕ) (l : List A) (d : A) (i : ℕ) → b + n ≤ i → getD (putsAt b n f l) i d ≡ getD l i d
+  unfolding puts putsAt
+  getD-unputAt zero l d i h = refl
+  getD-unputAt (suc n) l d i h =
+      getD-set-other (putsAt b n f l) (b + n) i (f n) d (λ e. absurd (omega arith)) ∙ getD-unputAt n l d i (omega arith)
+
+-- `lib.Seq.sets` in two parts, and of elements given by a function; lines of a rectangle
+pub sets-append : {A : Type 0} (a b l : List A) (i : ℕ) → sets l i (a ++ b) ≡ sets (sets l i a) (i + length a) b
+sets-append [] b l i = ap (λ (k : ℕ). sets l k b) (sym (add-zero i))
+sets-append (x ∷ a) b l i =
+    let e : suc i + length a ≡ i + suc (length a) = omega arith in
+    sets-append a b (set l i x) (suc i) ∙ ap (λ (k : ℕ). sets (sets (set l i x) (suc i) a) k b) e
+
+pub putsAt-sets : {A : Type 0} (f : ℕ → A) (b n : ℕ) (l : List A) → putsAt b n f l ≡ sets l b (tab n f)
+unfolding puts putsAt
+putsAt-sets f b zero l = refl
+putsAt-sets f b (suc n) l =
+    ap₂ (λ (s : List _) (k : ℕ). set s (b + k) (f n)) (putsAt-sets f b n l) (sym (length-tab f n)) ∙ sym (sets-append (tab n f) (f n ∷ []) l b)
+
+pub putsAt-rect : {A : Type 0} (F : ℕ → ℕ → A) (c m : ℕ) (l s : List A) → s ≡ sets l 0 (rect m c F) → putsAt (m * c) c (F m) s ≡ sets l 0 (rect (m + 1) c F)
+unfolding puts putsAt
+putsAt-rect F c m l s e =
+    let at : 0 + length (rect m c F) ≡ m * c = omega (arith, length-rect c F m) in
+    putsAt-sets (F m) (m * c) c s ∙ ap₂ (λ (k : ℕ) (x : List _). sets x k (tab c (F m))) (sym at) e ∙ sym (sets-append (rect m c F) (tab c (F m)) l 0)
+    ∙ ap (λ (k : ℕ). sets l 0 (rect k c F)) (sym (add-one m))

@@ -1,0 +1,198 @@
+-- The table that the code makes of two planes is the table of the sheet.
+-- Assumes nothing.
+use mathlib.Core.Path.{_≡_, refl, sym, _∙_, ap, ap₂}
+use mathlib.Core.Bool.{Bool, true, false, not, cond, _&&_, _||_}
+use mathlib.Core.List.{List}
+use Prim.Native.Nat.{ℕ, zero, suc, _+_, _-_, _*_, _%_, _^_, _<_, _≤_}
+use native.Mathlib.Nat.{zero-add, mod-eq-of-lt}
+use native.Mathlib.Omega.{arith}
+use lib.Dec.{eqb, ltb}
+use lib.ListN.{length, getD, replicate, length-replicate, getD-replicate}
+use lib.Seq.{sets}
+use lib.Pow.{pow-mono}
+use borrow.Author.Tests.{ltb-false}
+use Rattle.laws.specs.Tests.{any}
+use Rattle.laws.specs.Lists.{puts, rect}
+use Rattle.laws.specs.Bits.{has, flag}
+use Rattle.laws.proofs.Cases.{or-split}
+use Rattle.laws.proofs.Tests.{any-ext, any-out}
+use Rattle.laws.proofs.Lists.{length-rect, rect-ext, rect-each}
+use Rattle.laws.proofs.Filled.{written-sets, getD-written}
+use Rattle.laws.proofs.Puts.{getD-puts}
+use Rattle.laws.proofs.Bits.{has-or, flag-has}
+use Rattle.laws.proofs.Masks.{has-zero}
+use Rattle.sheet.specs.Records.{recordCount, byte, matches, forces0, forces1}
+use Rattle.sheet.specs.Job.{inputsTo, outputsTo, wordOf, numberOf}
+use Rattle.sheet.specs.Values.{forcedTo0, forcedTo1, value}
+use Rattle.sheet.specs.Refusals.{refuse3, malformed, anyMalformed}
+use Rattle.sheet.specs.Table.{tableAt, tableOf}
+use Rattle.sheet.specs.Pairs.{pairOf}
+use Rattle.sheet.specs.Planes.{agrees, added, marks, numberTo, lineValue, inputArray, outputArray, fieldArray, byteArray, numberArray, numberedField, planeOf, lineAt, madeTable, Readable}
+use Rattle.sheet.proofs.Orders.{order-length, inputs-length, outputs-length, input-below, output-below}
+use Rattle.sheet.proofs.Words.{matches-number, numberTo-is}
+use Rattle.sheet.proofs.Clashes.{value-below}
+
+-- an output is forced at a place where a record forces it that has the place
+has-cond : (b : Bool) (f o : ℕ) → has (cond b f 0) o ≡ (b && has f o)
+has-cond true f o = refl
+has-cond false f o = has-zero o
+
+pub marks-has : (ks vs fs : List ℕ) (r x o : ℕ) → has (marks 0 ks vs fs r x) o ≡ any r (λ q. agrees (getD ks q 0) (getD vs q 0) x && has (getD fs q 0) o)
+unfolding marks added
+marks-has ks vs fs zero x o = has-zero o
+marks-has ks vs fs (suc r) x o =
+    has-or (marks 0 ks vs fs r x) (added (getD ks r 0) (getD vs r 0) (getD fs r 0) x) o
+    ∙ ap₂ _||_ (marks-has ks vs fs r x o) (has-cond (agrees (getD ks r 0) (getD vs r 0) x) (getD fs r 0) o)
+
+-- arrays of any size that hold zeros before anything is stored
+stored : (size n : ℕ) (f : ℕ → ℕ) (i : ℕ) → n ≤ size → i < n → getD (puts n f (replicate size 0)) i 0 ≡ f i
+stored size n f i h l = getD-puts f n (replicate size 0) 0 i l (omega (arith, length-replicate {A = ℕ} size 0))
+
+stored-over : (size : ℕ) (g : ℕ → ℕ → ℕ) (i : ℕ) → i < size
+    → getD (puts size (λ k. g (getD (replicate size 0) k 0) k) (replicate size 0)) i 0 ≡ g 0 i
+stored-over size g i h =
+    stored size size (λ k. g (getD (replicate size 0) k 0) k) i (omega arith) h ∙ ap (λ (a : ℕ). g a i) (getD-replicate size i 0 0 h)
+
+laid : (size : ℕ) (l : List ℕ) (i : ℕ) → length l ≤ size → i < length l → getD (sets (replicate size 0) 0 l) i 0 ≡ getD l i 0
+laid size l i h b =
+    let fits : 0 + length l ≤ length (replicate {A = ℕ} size 0) = omega (arith, length-replicate {A = ℕ} size 0) in
+    ap₂ (λ (a : List ℕ) (k : ℕ). getD a k 0) (sym (written-sets (replicate size 0) 0 l fits)) (sym (zero-add i))
+    ∙ getD-written (replicate size 0) 0 l fits 0 i b
+
+field-at : (s : List ℕ) (lo hi r : ℕ) → recordCount s ≤ 256 → r < recordCount s → getD (fieldArray s lo hi) r 0 ≡ pairOf s lo hi r
+unfolding fieldArray
+field-at s lo hi r = stored 256 (recordCount s) (pairOf s lo hi) r
+
+byte-at : (s : List ℕ) (at r : ℕ) → recordCount s ≤ 256 → r < recordCount s → getD (byteArray s at) r 0 ≡ byte s r at
+unfolding byteArray
+byte-at s at r = stored 256 (recordCount s) (λ k. byte s k at) r
+
+number-at : (is ws : List ℕ) (n r : ℕ) → r < 256 → getD (numberArray is n ws) r 0 ≡ numberTo 0 is n (getD ws r 0)
+unfolding numberArray
+number-at is ws n r = stored-over 256 (λ a k. numberTo a is n (getD ws k 0)) r
+
+plane-at : (ks vs s : List ℕ) (at x : ℕ) → x < 4096 → getD (planeOf ks vs s at) x 0 ≡ marks 0 ks vs (byteArray s at) (recordCount s) x
+unfolding planeOf
+plane-at ks vs s at x = stored-over 4096 (λ a k. marks a ks vs (byteArray s at) (recordCount s) k) x
+
+-- the value as the code computes it
+choice : (p q : Bool) → (1 - flag p) * (2 - flag q) ≡ cond p 0 (cond q 1 2)
+choice true true = refl
+choice true false = refl
+choice false true = refl
+choice false false = refl
+
+line-value : (z y o : ℕ) → lineValue z y o ≡ cond (has z o) 0 (cond (has y o) 1 2)
+unfolding lineValue
+line-value z y o = ap₂ (λ (a b : ℕ). (1 - a) * (2 - b)) (sym (flag-has z o)) (sym (flag-has y o)) ∙ choice (has z o) (has y o)
+
+module _ (n m : ℕ) (order s : List ℕ) (c : Readable n m order s) where
+  few : recordCount s ≤ 256
+  unfolding refuse3
+  few =
+      let h = ltb-false 2048 (length s) (or-split (not (eqb (length s % 8) 0)) (ltb 2048 (length s)) (c .length-good) .1) in
+      omega arith
+
+  order-is : length order ≡ n + m
+  order-is = order-length n m order (c .order-whole) (c .inputs) (c .outputs)
+
+  input-at : (k : ℕ) → k < n → getD (inputArray order) k 0 ≡ getD (inputsTo (n + m) order (n + m)) k 0
+  unfolding inputArray
+  input-at k h =
+      let e = inputs-length n m order (c .order-whole) (c .inputs) (c .outputs) in
+      ap (λ (t : ℕ). getD (sets (replicate 20 0) 0 (inputsTo t order t)) k 0) order-is
+      ∙ laid 20 (inputsTo (n + m) order (n + m)) k (omega arith) (omega arith)
+
+  output-at : (k : ℕ) → k < m → getD (outputArray order) k 0 % 8 ≡ getD (outputsTo (n + m) order (n + m)) k 0
+  unfolding outputArray
+  output-at k h =
+      let e = outputs-length n m order (c .order-whole) (c .inputs) (c .outputs) in
+      let l = output-below n m order (c .order-whole) (c .inputs) (c .outputs) k h in
+      ap (λ (t : ℕ). getD (sets (replicate 20 0) 0 (outputsTo t order t)) k 0 % 8) order-is
+      ∙ ap (λ (o : ℕ). o % 8) (laid 20 (outputsTo (n + m) order (n + m)) k (omega arith) (omega arith))
+      ∙ mod-eq-of-lt (omega arith)
+
+  -- a field of a record as the number read down the order
+  field-number : (lo hi r : ℕ) → r < recordCount s
+      → getD (numberedField n order s lo hi) r 0 ≡ numberOf (inputsTo (n + m) order (n + m)) (pairOf s lo hi r)
+  unfolding numberedField
+  field-number lo hi r h =
+      number-at (inputArray order) (fieldArray s lo hi) n r (omega (arith, few))
+      ∙ ap (numberTo 0 (inputArray order) n) (field-at s lo hi r few h)
+      ∙ numberTo-is (inputArray order) (inputsTo (n + m) order (n + m)) n (pairOf s lo hi r) (c .inputs) input-at
+      (λ k l. let b = input-below n m order (c .order-whole) (c .inputs) (c .outputs) k l in omega arith)
+      (inputs-length n m order (c .order-whole) (c .inputs) (c .outputs))
+
+  -- a record has the place x where it matches the word of x
+  has-place : (r x : ℕ) → r < recordCount s → x < 2 ^ n
+      → agrees (getD (numberedField n order s 0 1) r 0) (getD (numberedField n order s 2 3) r 0) x
+      ≡ matches s r (wordOf (inputsTo (n + m) order (n + m)) x)
+  unfolding anyMalformed
+  has-place r x h l =
+      ap₂ (λ (k v : ℕ). agrees k v x) (field-number 0 1 r h) (field-number 2 3 r h)
+      ∙ sym (matches-number n m order (c .order-whole) (c .inputs) (c .outputs) s r x
+      (any-out (malformed n m s) (recordCount s) (c .records-good) r h) l)
+
+  -- what a plane holds at place x
+  plane-has : (at x o : ℕ) → x < 2 ^ n
+      → has (getD (planeOf (numberedField n order s 0 1) (numberedField n order s 2 3) s at) x 0) o
+      ≡ any (recordCount s) (λ r. matches s r (wordOf (inputsTo (n + m) order (n + m)) x) && has (byte s r at) o)
+  plane-has at x o l =
+      let ks = numberedField n order s 0 1 in
+      let vs = numberedField n order s 2 3 in
+      let w = wordOf (inputsTo (n + m) order (n + m)) x in
+      let low = pow-mono (c .inputs) in
+      ap (λ (z : ℕ). has z o) (plane-at ks vs s at x (omega arith))
+      ∙ marks-has ks vs (byteArray s at) (recordCount s) x o
+      ∙ any-ext (λ r. agrees (getD ks r 0) (getD vs r 0) x && has (getD (byteArray s at) r 0) o) (λ r. matches s r w && has (byte s r at) o) (recordCount s)
+      (λ r h. ap₂ (λ (p : Bool) (f : ℕ). p && has f o) (has-place r x h l) (byte-at s at r few h))
+
+  line-at : (k x : ℕ) → k < m → x < 2 ^ n
+      → lineAt (planeOf (numberedField n order s 0 1) (numberedField n order s 2 3) s 4)
+      (planeOf (numberedField n order s 0 1) (numberedField n order s 2 3) s 5) (outputArray order) k x
+      ≡ tableAt n m order s k x
+  unfolding lineAt tableAt value forcedTo0 forcedTo1 forces0 forces1
+  line-at k x h l =
+      let ks = numberedField n order s 0 1 in
+      let vs = numberedField n order s 2 3 in
+      let o = getD (outputsTo (n + m) order (n + m)) k 0 in
+      ap (lineValue (getD (planeOf ks vs s 4) x 0) (getD (planeOf ks vs s 5) x 0)) (output-at k h)
+      ∙ line-value (getD (planeOf ks vs s 4) x 0) (getD (planeOf ks vs s 5) x 0) o
+      ∙ ap₂ (λ (p q : Bool). cond p 0 (cond q 1 2)) (plane-has 4 x o l) (plane-has 5 x o l)
+
+pub table-made : (n m : ℕ) (order s : List ℕ) → Readable n m order s → madeTable n m order s ≡ tableOf n m order s
+unfolding madeTable tableOf
+table-made n m order s c =
+    let ks = numberedField n order s 0 1 in
+    let vs = numberedField n order s 2 3 in
+    rect-ext (lineAt (planeOf ks vs s 4) (planeOf ks vs s 5) (outputArray order)) (tableAt n m order s) m (2 ^ n) (line-at n m order s c)
+
+-- a table has m lines of 2^n values, each 0, 1 or 2
+pub table-length : (n m : ℕ) (order s : List ℕ) → length (tableOf n m order s) ≡ m * 2 ^ n
+unfolding tableOf
+table-length n m order s = length-rect (2 ^ n) (tableAt n m order s) m
+
+pub table-below : (n m : ℕ) (order s : List ℕ) (i : ℕ) → getD (tableOf n m order s) i 0 < 3
+unfolding tableOf tableAt
+table-below n m order s i =
+    rect-each (λ (v : ℕ). v < 3) 0 (omega arith) (tableAt n m order s)
+    (λ k x. value-below s (wordOf (inputsTo (n + m) order (n + m)) x) (getD (outputsTo (n + m) order (n + m)) k 0)) m (2 ^ n) i
+
+-- what the code's arrays hold after each call
+pub numbered : (n : ℕ) (order s : List ℕ) (lo hi : ℕ) (old is ws : List ℕ) → old ≡ replicate 256 0 → is ≡ inputArray order → ws ≡ fieldArray s lo hi
+    → puts 256 (λ r. numberTo (getD old r 0) is n (getD ws r 0)) old ≡ numberedField n order s lo hi
+unfolding numberedField numberArray
+numbered n order s lo hi old is ws p q e = rw (p, q, e) refl
+
+pub planed : (ks vs s : List ℕ) (at : ℕ) (old fs : List ℕ) → old ≡ replicate 4096 0 → fs ≡ byteArray s at
+    → puts 4096 (λ x. marks (getD old x 0) ks vs fs (recordCount s) x) old ≡ planeOf ks vs s at
+unfolding planeOf
+planed ks vs s at old fs p q = rw (p, q) refl
+
+pub lined : (n m : ℕ) (order s : List ℕ) → Readable n m order s → (ks vs zs ys os : List ℕ) → ks ≡ numberedField n order s 0 1 → vs ≡ numberedField n order s 2 3
+    → zs ≡ planeOf ks vs s 4
+    → ys ≡ planeOf ks vs s 5
+    → os ≡ outputArray order
+    → rect m (2 ^ n) (lineAt zs ys os) ≡ tableOf n m order s
+unfolding madeTable
+lined n m order s h ks vs zs ys os p q z y o = rw (z, y, o, p, q) (table-made n m order s h)

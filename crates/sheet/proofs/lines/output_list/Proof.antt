@@ -1,0 +1,99 @@
+use Prim.Native.Nat.{_<_}
+use mathlib.Core.Path.{subst}
+use mathlib.Core.Path.{refl}
+use Prim.Native.Nat.{ℕ, _≤_, _-_, _+_, suc}
+use mathlib.Core.Path.{_≡_, sym, ap, _∙_}
+use mathlib.Core.List.{List, [], _∷_, _++_}
+use native.Mathlib.Omega.{arith}
+use lib.ListN.{length, getD, set, length-append}
+use lib.Seq.{sets}
+use Rattle.laws.proofs.Cases.{either}
+use Rattle.sheet.specs.Job.{outputsTo}
+use Rattle.sheet.proofs.Lists.{Listed, listed-more, listed-same, output-here, no-output-here}
+use borrow.Author.Needs.{needs}
+use Rattle.sheet.proofs.lines.output_list.Statement.{statement}
+use Rattle.sheet.proofs.lines.output_list.Tie as tie
+use Rattle.sheet.proofs.lines.output_list.Reads as reads
+use Rattle.sheet.proofs.lines.output_list.Lts as lts
+
+abbrev Inv-loop : tie.InvT-loop
+Inv-loop order list₀ t count₀ h₀ list count h = (h ≤ t) × Listed (outputsTo t order) list₀ list count h
+
+abbrev μ-loop : tie.MeasureT-loop
+μ-loop order list₀ t count₀ h₀ list count h = t - h
+
+-- src/lines.rt:47:5
+loop-holds : tie.Need-loop-holds Inv-loop μ-loop
+unfolding outputsTo
+loop-holds c = (omega arith, record { few = omega arith; counted = refl; stored = refl })
+
+-- src/lines.rt:48:23
+sub-v : tie.Need-sub-v Inv-loop μ-loop
+sub-v c = search needs
+
+-- src/lines.rt:48:23
+sub-v-2 : tie.Need-sub-v-2 Inv-loop μ-loop
+sub-v-2 c = search needs
+
+-- src/lines.rt:48:17
+shared-slice-read-v : tie.Need-shared-slice-read-v Inv-loop μ-loop
+shared-slice-read-v c = search needs
+
+-- src/lines.rt:50:13
+element-write-list : tie.Need-element-write-list Inv-loop μ-loop
+element-write-list c = search needs
+
+-- src/lines.rt:51:13
+add-count : tie.Need-add-count Inv-loop μ-loop
+add-count c = search needs
+
+-- src/lines.rt:53:9
+add-h : tie.Need-add-h Inv-loop μ-loop
+add-h c = search needs
+
+-- src/lines.rt:47:5
+loop-less : tie.Need-loop-less Inv-loop μ-loop
+loop-less c = search needs
+
+-- src/lines.rt:47:5
+loop-again : tie.Need-loop-again Inv-loop μ-loop
+loop-again c =
+    let l = c .before .before .before .loop in
+    let a = c .before .before .before .before .args in
+    let s = a .order .now in
+    let t = length s in
+    let e : t - 1 - l .h ≡ t - suc (l .h) = omega arith in (
+      omega arith,
+      either (c .if1 .came)
+          (λ w.
+          rw (w .1, w .2)
+          (listed-more (outputsTo t s) (a .list .now) (l .list) (l .count) (l .h) (l .inv .1) _
+          (output-here t s (l .h) (subst (λ (k : ℕ). 128 ≤ getD s k 0) e (w .0 .taken)) ∙ ap (λ (k : ℕ). outputsTo t s (l .h) ++ ((getD s k 0 - 128) ∷ [])) (sym e))))
+          (λ w.
+          rw (w .1, w .2)
+          (listed-same (outputsTo t s) (a .list .now) (l .list) (l .count) (l .h) (l .inv .1) (no-output-here t s (l .h) (subst (λ (k : ℕ). getD s k 0 < 128) e (w .0 .left))))),
+    )
+
+-- src/lines.rt:38:1
+returns : tie.Need-returns Inv-loop μ-loop
+returns c =
+    let l = c .before .loop in
+    let e : l .h ≡ length (c .before .before .args .order .now) = omega arith in
+    rw e at (l .inv .1 .stored)
+
+pub output-list-spec : {M : Type 1} → statement M
+output-list-spec =
+    tie.close
+    (tie.spec
+    Inv-loop
+    μ-loop
+    loop-holds
+    sub-v
+    sub-v-2
+    shared-slice-read-v
+    element-write-list
+    add-count
+    add-h
+    loop-less
+    loop-again
+    returns)

@@ -1,0 +1,118 @@
+use mathlib.Core.Path.{sym}
+use Rattle.laws.proofs.Puts.{puts-none}
+use Prim.Native.Nat.{ℕ, _≤_, _-_, _*_, _^_}
+use mathlib.Core.Path.{_≡_, _∙_, ap, ap₂}
+use mathlib.Core.List.{List}
+use native.Mathlib.Omega.{arith}
+use lib.Bits.{bitOr}
+use lib.ListN.{getD}
+use lib.Pow.{shl-exact}
+use Rattle.laws.specs.Lists.{puts}
+use Rattle.laws.specs.Bits.{bit}
+use Rattle.laws.proofs.Puts.{puts-next, getD-unput}
+use Rattle.laws.proofs.Bits.{bit-lt}
+use borrow.Author.Needs.{needs}
+use Rattle.sheet.proofs.planes.move_bit.Statement.{statement}
+use Rattle.sheet.proofs.planes.move_bit.Tie as tie
+use Rattle.sheet.proofs.planes.move_bit.Reads as reads
+use Rattle.sheet.proofs.planes.move_bit.Lts as lts
+
+abbrev Inv-loop : tie.InvT-loop
+Inv-loop from k words numbers₀ r₀ numbers r = (r ≤ 256) × (numbers ≡ puts r (λ r. bitOr (getD numbers₀ r 0) (bit (getD words r 0) from * 2 ^ k)) numbers₀)
+
+abbrev μ-loop : tie.MeasureT-loop
+μ-loop from k words numbers₀ r₀ numbers r = 256 - r
+
+-- src/planes.rt:105:5
+loop-holds : tie.Need-loop-holds Inv-loop μ-loop
+loop-holds c = (omega arith, sym (puts-none (λ r. bitOr (getD (c .args .numbers .now) r 0) (bit (getD (c .args .words .now) r 0) (c .args .from) * 2 ^ c .args .k)) (c .args .numbers .now)))
+
+-- src/planes.rt:106:22
+mul-numbers : tie.Need-mul-numbers Inv-loop μ-loop
+mul-numbers c = search needs
+
+-- src/planes.rt:106:22
+element-copy-out-numbers : tie.Need-element-copy-out-numbers Inv-loop μ-loop
+element-copy-out-numbers c = search needs
+
+-- src/planes.rt:106:38
+mul-numbers-2 : tie.Need-mul-numbers-2 Inv-loop μ-loop
+mul-numbers-2 c = search needs
+
+-- src/planes.rt:106:38
+element-copy-out-numbers-2 : tie.Need-element-copy-out-numbers-2 Inv-loop μ-loop
+element-copy-out-numbers-2 c = search needs
+
+-- src/planes.rt:106:50
+cast-numbers : tie.Need-cast-numbers Inv-loop μ-loop
+cast-numbers c = search needs
+
+-- src/planes.rt:106:38
+shr-numbers : tie.Need-shr-numbers Inv-loop μ-loop
+shr-numbers c = search needs
+
+-- src/planes.rt:106:64
+cast-numbers-2 : tie.Need-cast-numbers-2 Inv-loop μ-loop
+cast-numbers-2 c = search needs
+
+-- src/planes.rt:106:36
+shl-numbers : tie.Need-shl-numbers Inv-loop μ-loop
+shl-numbers c = search needs
+
+-- src/planes.rt:106:9
+mul-numbers-3 : tie.Need-mul-numbers-3 Inv-loop μ-loop
+mul-numbers-3 c = search needs
+
+-- src/planes.rt:106:9
+element-write-numbers : tie.Need-element-write-numbers Inv-loop μ-loop
+element-write-numbers c = search needs
+
+-- src/planes.rt:107:9
+add-r : tie.Need-add-r Inv-loop μ-loop
+add-r c = search needs
+
+-- src/planes.rt:105:5
+loop-less : tie.Need-loop-less Inv-loop μ-loop
+loop-less c = search needs
+
+-- src/planes.rt:105:5
+loop-again : tie.Need-loop-again Inv-loop μ-loop
+loop-again c =
+    let l = c .before .before .before .loop in
+    let a = c .before .before .before .before .args in
+    let g : ℕ → ℕ = λ r. bitOr (getD (a .numbers .now) r 0) (bit (getD (a .words .now) r 0) (a .from) * 2 ^ a .k) in
+    let old : getD (l .numbers) (l .r) 0 ≡ getD (a .numbers .now) (l .r) 0 =
+    ap (λ (s : List ℕ). getD s (l .r) 0) (l .inv .1) ∙ getD-unput g (l .r) (a .numbers .now) 0 (l .r) (omega arith) in (
+      omega arith,
+      puts-next g (l .r) (a .numbers .now) (l .numbers) _ (l .inv .1)
+          (ap₂ bitOr old (shl-exact 1 (a .k) 16 (bit-lt (getD (a .words .now) (l .r) 0) (a .from)) (omega arith))),
+    )
+
+-- src/planes.rt:96:1
+returns : tie.Need-returns Inv-loop μ-loop
+returns c =
+    let l = c .before .loop in
+    let e : l .r ≡ 256 = omega arith in
+    rw e at (l .inv .1)
+
+pub move-bit-spec : {M : Type 1} → statement M
+move-bit-spec =
+    tie.close
+    (tie.spec
+    Inv-loop
+    μ-loop
+    loop-holds
+    mul-numbers
+    element-copy-out-numbers
+    mul-numbers-2
+    element-copy-out-numbers-2
+    cast-numbers
+    shr-numbers
+    cast-numbers-2
+    shl-numbers
+    mul-numbers-3
+    element-write-numbers
+    add-r
+    loop-less
+    loop-again
+    returns)

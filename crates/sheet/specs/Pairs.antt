@@ -1,0 +1,50 @@
+-- Refusals 5 and 6 as the code finds them: by pairs of records and by masks of inputs. That they are refusals 5 and 6 is proved.
+-- Assumes nothing.
+use Prim.Native.Nat.{ℕ, _+_, _*_, _^_}
+use mathlib.Core.Bool.{Bool, not, _&&_}
+use mathlib.Core.List.{List}
+use lib.Dec.{eqb, ltb}
+use lib.ListN.{length, getD}
+use lib.Bits.{bitAnd, bitXor}
+use Rattle.laws.specs.Tests.{any, sum}
+use Rattle.laws.specs.Bits.{has, flag}
+use Rattle.sheet.specs.Records.{recordCount, byte, mask, values, names}
+use Rattle.sheet.specs.Job.{Job, outputByte}
+use Rattle.sheet.specs.Refusals.{heightOf, placeOf}
+
+-- bytes lo and hi of record r as one number, lo lowest
+abbrev pub pairOf : List ℕ → ℕ → ℕ → ℕ → ℕ
+pairOf s lo hi r = byte s r lo + byte s r hi * 256
+
+-- the outputs that record r forces: to 0 in the low byte and to 1 in the high; and the other way round
+abbrev pub force : List ℕ → ℕ → ℕ
+force s r = pairOf s 4 5 r
+
+abbrev pub against : List ℕ → ℕ → ℕ
+against s r = pairOf s 5 4 r
+
+-- in lists of the records' masks, values, forces and opposite forces: record q agrees with record r on the inputs that both test, and
+-- forces an output the other way
+unfoldable pub hitIn : List ℕ → List ℕ → List ℕ → List ℕ → ℕ → ℕ → Bool
+hitIn ms vs fs gs r q =
+    eqb (bitAnd (bitAnd (bitXor (getD vs q 0) (getD vs r 0)) (getD ms q 0)) (getD ms r 0)) 0 && not (eqb (bitAnd (getD fs q 0) (getD gs r 0)) 0)
+
+-- the same of the sheet's records
+unfoldable pub hit : List ℕ → ℕ → ℕ → Bool
+hit s r q =
+    eqb (bitAnd (bitAnd (bitXor (values s q) (values s r)) (mask s q)) (mask s r)) 0 && not (eqb (bitAnd (force s q) (against s r)) 0)
+
+-- some record is hit by one before it
+unfoldable pub anyHit : List ℕ → Bool
+anyHit s = any (recordCount s) (λ r. any r (hit s r))
+
+-- the inputs that stand below the variable v in the order, as a mask
+unfoldable pub belowMask : List ℕ → ℕ → ℕ → ℕ
+belowMask order n v = sum n (λ i. flag (ltb (placeOf order v) (placeOf order i)) * 2 ^ i)
+
+-- a record names output o and tests an input of the mask
+unfoldable pub crosses : List ℕ → ℕ → ℕ → Bool
+crosses s below o = any (recordCount s) (λ r. names s r o && not (eqb (bitAnd (mask s r) below) 0))
+
+unfoldable pub anyCrosses : ℕ → ℕ → List ℕ → List ℕ → Bool
+anyCrosses n m order s = any m (λ o. crosses s (belowMask order n (outputByte o)) o)

@@ -1,0 +1,160 @@
+// The table of the function, line by line, from two planes.
+ghost use mathlib.Core.Path.{_≡_};
+ghost use Prim.Native.Nat.{ℕ, _≤_, _<_, _+_, _-_, _*_, _/_, _%_, _^_};
+ghost use lib.ListN.{length, getD, replicate};
+ghost use lib.Seq.{sets};
+ghost use Rattle.laws.specs.Lists.{putsAt, rect};
+ghost use Rattle.sheet.specs.Job.{inputsTo, outputsTo};
+ghost use Rattle.sheet.specs.Table.{tableOf};
+ghost use Rattle.sheet.specs.Planes.{lineValue, lineAt, Readable, numberedField, planeOf};
+use crate::numbers::power;
+use crate::numbers::wide;
+use crate::planes::mark;
+use crate::planes::number_words;
+use crate::records::load;
+use crate::records::load_byte;
+
+// The inputs of the order, lowest first.
+fn input_list(order: &[u8], list: &mut [u8; 20])
+    requires { do ⌜ (← ⟦order.len()⟧) ≤ 20 ⌝ }
+    ensures { λ _.
+        ⌜ now (list .exit)
+        ≡ sets (now (list .entry)) 0 (inputsTo (length (now (order .entry))) (now (order .entry)) (length (now (order .entry)))) ⌝ }
+{
+    let t = order.len();
+    let mut count = 0;
+    let mut h = 0;
+    while h < t {
+        let v = order[t - 1 - h];
+        if v < 128 {
+            list[count] = v;
+            count += 1;
+        }
+        h += 1;
+    }
+}
+
+// The outputs of the order, lowest first.
+fn output_list(order: &[u8], list: &mut [u8; 20])
+    requires { do ⌜ (← ⟦order.len()⟧) ≤ 20 ⌝ }
+    ensures { λ _.
+        ⌜ now (list .exit)
+        ≡ sets (now (list .entry)) 0 (outputsTo (length (now (order .entry))) (now (order .entry)) (length (now (order .entry)))) ⌝ }
+{
+    let t = order.len();
+    let mut count = 0;
+    let mut h = 0;
+    while h < t {
+        let v = order[t - 1 - h];
+        if 128 <= v {
+            list[count] = v - 128;
+            count += 1;
+        }
+        h += 1;
+    }
+}
+
+// The value of output o where the outputs z are forced to 0 and the outputs y to 1.
+fn value_of(z: u8, y: u8, o: usize) -> u8
+    requires { ⌜ o < 8 ⌝ }
+    ensures { λ r. ⌜ r ≡ lineValue z y o ⌝ }
+{
+    (1 - (z >> o) % 2) * (2 - (y >> o) % 2)
+}
+
+// One line: the values of output o at the first count places, written from base on.
+fn write_line(
+    count: usize,
+    o: usize,
+    zeros: &[u8; 4096],
+    ones: &[u8; 4096],
+    base: usize,
+    table: &mut [u8; 32768],
+)
+    requires { ⌜ (count ≤ 4096) × (o < 8) × (base + count ≤ 32768) ⌝ }
+    ensures { λ _.
+        ⌜ now (table .exit)
+        ≡ putsAt base count (λ x. lineValue (getD (now (zeros .entry)) x 0) (getD (now (ones .entry)) x 0) o) (now (table .entry)) ⌝ }
+{
+    let mut x = 0;
+    while x < count {
+        table[base + x] = value_of(zeros[x], ones[x], o);
+        x += 1;
+    }
+}
+
+// All lines: line k is that of output k of the list.
+fn write_lines(
+    n: usize,
+    m: usize,
+    list: &[u8; 20],
+    zeros: &[u8; 4096],
+    ones: &[u8; 4096],
+    table: &mut [u8; 32768],
+)
+    requires { ⌜ (n ≤ 12) × (m ≤ 8) ⌝ }
+    ensures { λ _.
+        ⌜ now (table .exit)
+        ≡ sets (now (table .entry)) 0
+        (rect m (2 ^ n) (lineAt (now (zeros .entry)) (now (ones .entry)) (now (list .entry)))) ⌝ }
+{
+    let count = power(n);
+    let mut k = 0;
+    while k < m {
+        write_line(count, wide(list[k]) % 8, zeros, ones, k * count, table);
+        k += 1;
+    }
+}
+
+// Bytes lo and hi of each record, as numbers read down the order.
+fn number_field(
+    n: usize,
+    order: &[u8],
+    sheet: &[u8],
+    lo: usize,
+    hi: usize,
+    numbers: &mut [u16; 256],
+)
+    requires { do ⌜ (n ≤ 12) × ((← ⟦order.len()⟧) ≤ 20) × ((← ⟦sheet.len()⟧) ≤ 2048) × (lo < 8) × (hi < 8) × (now numbers ≡ replicate 256 0) ⌝ }
+    ensures { λ _. ⌜ now (numbers .exit) ≡ numberedField n (now (order .entry)) (now (sheet .entry)) lo hi ⌝ }
+{
+    let mut inputs = [0u8; 20];
+    input_list(order, &mut inputs);
+    let mut words = [0u16; 256];
+    load(sheet, lo, hi, &mut words);
+    number_words(&inputs, n, &words, numbers);
+}
+
+// What the outputs of byte at of each record force, place by place.
+fn plane_of(
+    masks: &[u16; 256],
+    values: &[u16; 256],
+    sheet: &[u8],
+    at: usize,
+    plane: &mut [u8; 4096],
+)
+    requires { do ⌜ ((← ⟦sheet.len()⟧) ≤ 2048) × (at < 8) × (now plane ≡ replicate 4096 0) ⌝ }
+    ensures { λ _. ⌜ now (plane .exit) ≡ planeOf (now (masks .entry)) (now (values .entry)) (now (sheet .entry)) at ⌝ }
+{
+    let mut forces = [0u8; 256];
+    load_byte(sheet, at, &mut forces);
+    mark(masks, values, &forces, sheet.len() / 8, plane);
+}
+
+// The whole table.
+pub fn write(n: usize, m: usize, order: &[u8], sheet: &[u8], table: &mut [u8; 32768])
+    requires { ⌜ Readable n m (now order) (now sheet) ⌝ }
+    ensures { λ _. ⌜ now (table .exit) ≡ sets (now (table .entry)) 0 (tableOf n m (now (order .entry)) (now (sheet .entry))) ⌝ }
+{
+    let mut masks = [0u16; 256];
+    number_field(n, order, sheet, 0, 1, &mut masks);
+    let mut values = [0u16; 256];
+    number_field(n, order, sheet, 2, 3, &mut values);
+    let mut zeros = [0u8; 4096];
+    plane_of(&masks, &values, sheet, 4, &mut zeros);
+    let mut ones = [0u8; 4096];
+    plane_of(&masks, &values, sheet, 5, &mut ones);
+    let mut list = [0u8; 20];
+    output_list(order, &mut list);
+    write_lines(n, m, &list, &zeros, &ones, table);
+}

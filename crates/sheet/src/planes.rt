@@ -1,0 +1,125 @@
+// Planes: for each of 4,096 places the outputs that the records matching it force.
+ghost use mathlib.Core.Path.{_≡_};
+ghost use Prim.Native.Nat.{ℕ, _≤_, _<_, _+_, _*_, _/_, _^_};
+ghost use lib.Bits.{bitAnd, bitOr};
+ghost use lib.ListN.{length, getD};
+ghost use Rattle.laws.specs.Lists.{puts, putsAt};
+ghost use Rattle.laws.specs.Bits.{bit};
+ghost use Rattle.sheet.specs.Planes.{added, marks, numberTo, CountsUp};
+use crate::numbers::wide;
+use crate::numbers::wide16;
+
+// f where the number i agrees with the values v on the mask k, else 0.
+fn added_at(k: u8, v: u8, f: u8, i: u8) -> u8
+    ensures { λ r. ⌜ r ≡ added k v f i ⌝ }
+{
+    if i & k == v {
+        return f;
+    }
+    0
+}
+
+// The numbers 0 to 255.
+fn count_up(low: &mut [u8; 256])
+    ensures { λ _. ⌜ now (low .exit) ≡ puts 256 (λ i. i) (now (low .entry)) ⌝ }
+{
+    let mut i = 0;
+    while i < 256 {
+        low[i] = (i % 256) as u8;
+        i += 1;
+    }
+}
+
+// The 256 places from base on: those whose lowest byte agrees with v on k get the outputs f. low holds the numbers 0 to 255: the loop
+// over bytes alone is quicker.
+fn mark_block(low: &[u8; 256], base: usize, k: u8, v: u8, f: u8, plane: &mut [u8; 4096])
+    requires { ⌜ base ≤ 3840 ⌝ }
+    ensures { λ _.
+        ⌜ now (plane .exit) ≡ putsAt base 256 (λ i. bitOr (getD (now (plane .entry)) (base + i) 0) (added k v f (getD (now (low .entry)) i 0))) (now (plane .entry)) ⌝ }
+{
+    let mut i = 0;
+    while i < 256 {
+        plane[base + i] = plane[base + i] | added_at(k, v, f, low[i]);
+        i += 1;
+    }
+}
+
+// Every place that agrees with v on k gets the outputs f. A block whose upper bits do not agree is passed over.
+fn mark_record(low: &[u8; 256], k: u16, v: u16, f: u8, plane: &mut [u8; 4096])
+    requires { ⌜ CountsUp (now low) ⌝ }
+    ensures { λ _. ⌜ now (plane .exit) ≡ puts 4096 (λ x. bitOr (getD (now (plane .entry)) x 0) (added k v f x)) (now (plane .entry)) ⌝ }
+{
+    if f == 0 {
+        return;
+    }
+    let mut b = 0;
+    while b < 16 {
+        if b & (k / 256) == v / 256 {
+            mark_block(
+                low,
+                wide16(b) * 256,
+                (k % 256) as u8,
+                (v % 256) as u8,
+                f,
+                plane,
+            );
+        }
+        b += 1;
+    }
+}
+
+// What the first count records force.
+pub fn mark(
+    masks: &[u16; 256],
+    values: &[u16; 256],
+    forces: &[u8; 256],
+    count: usize,
+    plane: &mut [u8; 4096],
+)
+    requires { ⌜ count ≤ 256 ⌝ }
+    ensures { λ _.
+        ⌜ now (plane .exit)
+        ≡ puts 4096
+        (λ x. marks (getD (now (plane .entry)) x 0) (now (masks .entry)) (now (values .entry)) (now (forces .entry)) count x)
+        (now (plane .entry)) ⌝ }
+{
+    let mut low = [0u8; 256];
+    count_up(&mut low);
+    let mut r = 0;
+    while r < count {
+        mark_record(&low, masks[r], values[r], forces[r], plane);
+        r += 1;
+    }
+}
+
+// Bit from of each word becomes bit k of its number.
+fn move_bit(from: usize, k: usize, words: &[u16; 256], numbers: &mut [u16; 256])
+    requires { ⌜ (from < 16) × (k < 12) ⌝ }
+    ensures { λ _.
+        ⌜ now (numbers .exit)
+        ≡ puts 256
+        (λ r. bitOr (getD (now (numbers .entry)) r 0) (bit (getD (now (words .entry)) r 0) from * 2 ^ k))
+        (now (numbers .entry)) ⌝ }
+{
+    let mut r = 0;
+    while r < 256 {
+        numbers[r] = numbers[r] | (((words[r] >> from) % 2) << k);
+        r += 1;
+    }
+}
+
+// Each word as a number: bit k is the word's bit for input k of the list.
+pub fn number_words(inputs: &[u8; 20], n: usize, words: &[u16; 256], numbers: &mut [u16; 256])
+    requires { ⌜ n ≤ 12 ⌝ }
+    ensures { λ _.
+        ⌜ now (numbers .exit)
+        ≡ puts 256
+        (λ r. numberTo (getD (now (numbers .entry)) r 0) (now (inputs .entry)) n (getD (now (words .entry)) r 0))
+        (now (numbers .entry)) ⌝ }
+{
+    let mut k = 0;
+    while k < n {
+        move_bit(wide(inputs[k]) % 16, k, words, numbers);
+        k += 1;
+    }
+}

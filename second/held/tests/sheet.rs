@@ -1,0 +1,106 @@
+//! The sheet layer against `plain`: refusal and every byte of the table after, over old contents that vary.
+
+use held::{sheet_refusal, sheet_table, TABLE_BYTES};
+use second::generate::{job, Family};
+use second::job::Job;
+use second::plain;
+use std::collections::BTreeMap;
+
+const SEED: u64 = 31;
+
+/// The table that must be there after: `plain` has its lines topmost output first, the proved layer lowest first.
+fn expected(job: &Job, old: &[u8; TABLE_BYTES]) -> (u8, Vec<u8>) {
+    let mut after = old.to_vec();
+    match plain::table(job) {
+        Err(number) => (number, after),
+        Ok(table) => {
+            let line = 1 << job.inputs;
+            for (place, values) in table.chunks_exact(line).rev().enumerate() {
+                after[place * line..][..line].copy_from_slice(values);
+            }
+            (0, after)
+        }
+    }
+}
+
+/// Compares so many jobs of a family; answers how often each refusal came.
+fn compare(family: Family, jobs: u64) -> BTreeMap<u8, u64> {
+    let mut seen = BTreeMap::new();
+    let mut old = [0u8; TABLE_BYTES];
+    for index in 0..jobs {
+        let job = job(family, SEED, index);
+        let mut state = index.wrapping_mul(0x9E37_79B9_7F4A_7C15) | 1;
+        for byte in old.iter_mut() {
+            state ^= state << 13;
+            state ^= state >> 7;
+            state ^= state << 17;
+            *byte = state as u8;
+        }
+        let (number, table) = expected(&job, &old);
+        assert_eq!(sheet_refusal(&job), number, "{job:?}");
+        let mut lent = old;
+        assert_eq!(sheet_table(&job, &mut lent), number, "{job:?}");
+        assert!(lent[..] == table[..], "the table differs: {job:?}");
+        *seen.entry(number).or_default() += 1;
+    }
+    println!("{}: {jobs} jobs, {seen:?}", family.name());
+    seen
+}
+
+#[test]
+fn small() {
+    for family in [
+        Family::SmallFewFree,
+        Family::SmallManyFree,
+        Family::SmallOrders,
+    ] {
+        assert_eq!(compare(family, 4_500).len(), 1);
+    }
+}
+
+#[test]
+fn damaged() {
+    let seen = compare(Family::SmallDamaged, 9_000);
+    assert!((1..=6).all(|number| seen.contains_key(&number)), "{seen:?}");
+}
+
+#[test]
+fn larger() {
+    compare(Family::Medium, 400);
+    compare(Family::FullRows, 400);
+    compare(Family::Loose, 1_000);
+    compare(Family::LimitFewFree, 60);
+    compare(Family::LimitManyFree, 60);
+    compare(Family::Columns512, 40);
+}
+
+/// Numbers of any size and slices of any length and contents.
+#[test]
+fn odd_numbers_and_lengths() {
+    let good = job(Family::SmallOrders, SEED, 3);
+    let old = [7u8; TABLE_BYTES];
+    for number in [0, 1, 9, 13, 255, 256, 1 << 32, u64::MAX] {
+        for place in 0..4 {
+            let mut job = good.clone();
+            let numbers = [
+                &mut job.inputs,
+                &mut job.outputs,
+                &mut job.cell_inputs,
+                &mut job.cell_outputs,
+            ];
+            *numbers.into_iter().nth(place).expect("four numbers") = number;
+            let (number, table) = expected(&job, &old);
+            let mut lent = old;
+            assert_eq!(sheet_table(&job, &mut lent), number, "{job:?}");
+            assert!(lent[..] == table[..]);
+        }
+    }
+    for length in [0, 1, 19, 20, 21, 100, 70_000] {
+        let mut job = good.clone();
+        job.order = (0..length).map(|i| (i * 37) as u8).collect();
+        assert_eq!(sheet_refusal(&job), expected(&job, &old).0);
+        job.order = good.order.clone();
+        job.sheet = vec![0; length];
+        assert_eq!(sheet_refusal(&job), expected(&job, &old).0);
+    }
+}
