@@ -15,6 +15,7 @@ use Rattle.laws.specs.Tests.{any, sum, count, least}
 use Rattle.laws.proofs.Cases.{by-test, by-less, last-or-below, and-split, and-join, same-test}
 use Rattle.laws.proofs.Tests.{any-of, any-at, any-out}
 use Rattle.laws.proofs.Find.{least-before}
+use Rattle.laws.proofs.Powers.{sum-bit, sum-small}
 use Rattle.laws.proofs.Bits.{bit-lt, flag-lt, bit-zero, bit-low, bit-high, flag-has, has-and, has-or, same-bits}
 
 -- a test that is both
@@ -60,35 +61,13 @@ xor-flags (suc (suc a)) b p q = absurd (omega arith)
 pub has-xor : (a b i : ℕ) → has (bitXor a b) i ≡ differ (has a i) (has b i)
 has-xor a b i = ap (λ (x : ℕ). eqb x 1) (xor-bit a b i) ∙ xor-flags (bit a i) (bit b i) (bit-lt a i) (bit-lt b i)
 
--- a number given by its bits
-top-bit : (lo k b : ℕ) → lo < 2 ^ k → b < 2 → lo + b * 2 ^ k < 2 ^ suc k
-top-bit lo k zero l h = omega arith
-top-bit lo k (suc zero) l h = omega arith
-top-bit lo k (suc (suc b)) l h = absurd (omega arith)
-
-module _ (d : ℕ → ℕ) (small : (i : ℕ) → d i < 2) where
-  pub sum-bits-lt : (n : ℕ) → sum n (λ i. d i * 2 ^ i) < 2 ^ n
-  sum-bits-lt zero = omega arith
-  sum-bits-lt (suc n) = top-bit (sum n (λ i. d i * 2 ^ i)) n (d n) (sum-bits-lt n) (small n)
-
-  pub bit-sum : (n i : ℕ) → i < n → bit (sum n (λ k. d k * 2 ^ k)) i ≡ d i
-  bit-sum zero i h = absurd (not-suc-le-zero h)
-  bit-sum (suc n) i h =
-      let lo = sum n (λ k. d k * 2 ^ k) in
-      let turned : bit (lo + d n * 2 ^ n) i ≡ bit (d n * 2 ^ n + lo) i = ap (λ (x : ℕ). bit x i) (add-comm lo (d n * 2 ^ n)) in
-      last-or-below i n h
-      (λ e.
-      turned ∙ ap (λ (k : ℕ). bit (d n * 2 ^ n + lo) k) (e ∙ sym (add-zero n)) ∙ bit-high (d n) n lo 0 (sum-bits-lt n)
-      ∙ ap (λ (x : ℕ). x % 2) (div-one (d n)) ∙ mod-eq-of-lt (small n) ∙ ap d (sym e))
-      (λ l. turned ∙ bit-low (d n) n lo i (sum-bits-lt n) l ∙ bit-sum n i l)
-
 -- the numbers at which a test holds, as a mask
 module _ (p : ℕ → Bool) (n : ℕ) where
   pub flags-lt : sum n (λ i. flag (p i) * 2 ^ i) < 2 ^ n
-  flags-lt = sum-bits-lt (λ i. flag (p i)) (λ i. flag-lt (p i)) n
+  flags-lt = sum-small (λ i. flag (p i)) n (λ i l. flag-lt (p i))
 
   pub has-flags : (i : ℕ) → i < n → has (sum n (λ k. flag (p k) * 2 ^ k)) i ≡ p i
-  has-flags i h = ap (λ (x : ℕ). eqb x 1) (bit-sum (λ k. flag (p k)) (λ k. flag-lt (p k)) n i h) ∙ flag-one (p i)
+  has-flags i h = ap (λ (x : ℕ). eqb x 1) (sum-bit (λ k. flag (p k)) (λ k. k) n (λ k l. flag-lt (p k)) (λ k q l r e. e) i h) ∙ flag-one (p i)
     where
       flag-one : (b : Bool) → eqb (flag b) 1 ≡ b
       flag-one true = refl
