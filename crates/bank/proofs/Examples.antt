@@ -1,7 +1,7 @@
 -- Computed examples: A's block twice with S 3 and S 4, and a whole scan of both, on the bank and in the book.
 -- Assumes nothing.
 use mathlib.Core.Path.{_≡_, refl}
-use mathlib.Core.List.{List, [], _∷_, _++_, map}
+use mathlib.Core.List.{List, [], _∷_, map}
 use Prim.Native.Nat.{ℕ}
 use lib.ListN.{replicate}
 use Rattle.sheet.specs.Opened.{sheetOpened}
@@ -11,7 +11,7 @@ use Rattle.bank.specs.Opened.{bankOpened}
 use Rattle.bank.specs.State.{fresh}
 use Rattle.bank.specs.Calls.{Answer, accepted, refused, idle, went}
 use Rattle.bank.specs.Book.{newBook}
-use Rattle.bank.specs.Lists.{Call, admission, latching, stepping, Entry, trace, bookTrace, readsOf, stepsOf}
+use Rattle.bank.specs.Lists.{Call, admission, latching, stepping, Entry, trace, bookTrace}
 
 abbrev admitA : Call
 admitA = admission recordsA rowsA

@@ -1,8 +1,8 @@
 -- The book (document 01, "The book of demand 3"): it is fed S, the length m of the row memory and the calls, and nothing of bank, scan
 -- state or rows held.
 -- Assumes nothing.
-use Prim.Native.Nat.{ℕ, zero, suc, _+_}
-use mathlib.Core.Bool.{Bool, cond, not, _||_}
+use Prim.Native.Nat.{ℕ, _+_}
+use mathlib.Core.Bool.{cond, not, _||_}
 use mathlib.Core.List.{List, [], _∷_, _++_, map}
 use lib.Dec.{eqb, leb, ltb}
 use lib.ListN.{length, getD, set}
@@ -10,7 +10,7 @@ use Rattle.laws.specs.Tests.{sum}
 use Rattle.laws.specs.Lists.{tab, joined}
 use Rattle.cutting.specs.Stored.{wellFormed, cellCount, cellAt, rowCount}
 use Rattle.cutting.specs.Run.{rowPlace, outputsAfter, railAfter, unset}
-use Rattle.bank.specs.Calls.{Answer, accepted, refused, idle, went, After, numbered}
+use Rattle.bank.specs.Calls.{accepted, idle, went, After, numbered}
 
 -- a block: its records and rows as handed in, its word, its rail word, and its outputs, 0 or 1 where set, else 2
 pub record Block : Type 0 where

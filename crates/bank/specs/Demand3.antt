@@ -17,7 +17,7 @@ use Rattle.cutting.specs.Stored.{cutByte, railByte, cellAt}
 use Rattle.cutting.specs.Compile.{compile, Totals}
 use Rattle.cutting.specs.Compile as compiler
 use Rattle.bank.specs.State.{State, fresh}
-use Rattle.bank.specs.Calls.{Answer, idle, outputsOf, step}
+use Rattle.bank.specs.Calls.{idle, outputsOf, step}
 use Rattle.bank.specs.Book.{Block, Place, Book, newBook, blockAt, cellsIn}
 use Rattle.bank.specs.Lists.{Call, latching, stepping, bookCall, stateAfter, bookAfter, trace, bookTrace, readsOf, stepsOf, goesOn}
 

@@ -6,7 +6,7 @@ use mathlib.Core.List.{List, [], _∷_, _++_, map}
 use Rattle.laws.specs.Lists.{tab}
 use Rattle.bank.specs.State.{State}
 use Rattle.bank.specs.Calls.{Answer, accepted, refused, idle, went, After, admit, latch, step, outputsOf}
-use Rattle.bank.specs.Book.{Block, Place, Book, bookAdmit, bookLatch, bookStep}
+use Rattle.bank.specs.Book.{Place, Book, bookAdmit, bookLatch, bookStep}
 
 -- an admission with a block's records and rows, a latch with its words, or a step
 pub data Call : Type 0 where

@@ -1,6 +1,6 @@
 -- The bank, its scan state and the row memory, and when an operation gives 12 of them (document 01, "The bank").
 -- Assumes nothing.
-use Prim.Native.Nat.{ℕ, _+_, _*_, _^_}
+use Prim.Native.Nat.{ℕ, _*_, _^_}
 use mathlib.Core.Bool.{Bool, not, _&&_, _||_, false}
 use mathlib.Core.List.{List}
 use lib.Dec.{leb, ltb}

@@ -1,6 +1,6 @@
 -- The case table of document 01, proved: each case by computing with the definitions.
 -- Assumes nothing.
-use mathlib.Core.Path.{_≡_, refl}
+use mathlib.Core.Path.{refl}
 use Rattle.sheet.specs.Opened.{sheetOpened}
 use Rattle.reduction.specs.Opened.{reductionOpened}
 use Rattle.cutting.specs.Opened.{cuttingOpened}

@@ -3,7 +3,7 @@
 use Prim.Native.Nat.{ℕ}
 use mathlib.Core.List.{List, [], _∷_}
 use Rattle.reduction.specs.declared.Node.{Node}
-use Rattle.cutting.specs.Compile.{Compiled, Totals, refused, accepted}
+use Rattle.cutting.specs.Compile.{Compiled, refused, accepted}
 use Rattle.cutting.specs.Example.{recordsA, rowsA}
 use Rattle.case_table.specs.Lent.{node, oldNodes, oldBytes}
 

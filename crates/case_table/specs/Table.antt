@@ -3,12 +3,11 @@
 use mathlib.Core.Path.{_≡_}
 use mathlib.Core.List.{List, [], _∷_, _++_}
 use Prim.Native.Nat.{ℕ}
-use lib.ListN.{replicate, length}
-use Rattle.sheet.specs.Job.{Job}
+use lib.ListN.{replicate}
 use Rattle.sheet.specs.Table.{table}
 use Rattle.cutting.specs.Compile.{made}
 use Rattle.cutting.specs.Listing.{listing}
-use Rattle.bank.specs.State.{State, fresh}
+use Rattle.bank.specs.State.{fresh}
 use Rattle.bank.specs.Calls.{Answer, accepted, refused}
 use Rattle.bank.specs.Book.{newBook}
 use Rattle.bank.specs.Lists.{Call, admission, Entry, trace, bookTrace, stateAfter}

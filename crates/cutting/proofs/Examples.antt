@@ -1,10 +1,10 @@
 -- Computed examples: the chosen lists of T, a job whose longest first cell costs bits, T's widths, cuts and rows, and A's stored form.
 -- Assumes nothing.
 use mathlib.Core.Path.{_≡_, refl}
-use mathlib.Core.Bool.{Bool, true, false}
+use mathlib.Core.Bool.{true}
 use mathlib.Core.List.{List, [], _∷_, _++_}
 use Prim.Native.Nat.{ℕ}
-use lib.ListN.{length, replicate}
+use lib.ListN.{replicate}
 use Rattle.sheet.specs.Opened.{sheetOpened}
 use Rattle.sheet.specs.Job.{Job}
 use Rattle.sheet.specs.Table.{table}
@@ -15,7 +15,7 @@ use Rattle.cutting.specs.Cuts.{cutLists, rails}
 use Rattle.cutting.specs.Choice.{chosen}
 use Rattle.cutting.specs.Stored.{wellFormed}
 use Rattle.cutting.specs.Run.{run}
-use Rattle.cutting.specs.ReadWrite.{read, wasRead, notRead, cascadeOf, write, Written}
+use Rattle.cutting.specs.ReadWrite.{read, notRead, cascadeOf, write}
 use Rattle.cutting.specs.Compile.{made}
 use Rattle.cutting.specs.Example.{recordsA, rowsA}
 

@@ -1,7 +1,7 @@
 -- The compiler: the answer and the lent memories after, for every job, sheet and memory (document 01, "Who can cause a refusal").
 -- Assumes nothing.
-use Prim.Native.Nat.{ℕ, suc, _*_}
-use mathlib.Core.Bool.{Bool, cond}
+use Prim.Native.Nat.{ℕ, _*_}
+use mathlib.Core.Bool.{cond}
 use mathlib.Core.List.{List, map}
 use lib.Dec.{eqb, ltb}
 use lib.ListN.{length, take}
@@ -13,7 +13,7 @@ use Rattle.reduction.specs.Columns.{layers}
 use Rattle.reduction.specs.Merge.{reduced, refuse7}
 use Rattle.reduction.specs.Diagram.{nodes}
 use Rattle.reduction.specs.declared.Node.{Node}
-use Rattle.cutting.specs.Cells.{rowTotal, bitTotal}
+use Rattle.cutting.specs.Cells.{bitTotal}
 use Rattle.cutting.specs.Cuts.{cellsOf}
 use Rattle.cutting.specs.Choice.{chosen, refuse8}
 use Rattle.cutting.specs.Rows.{cascadeRows}

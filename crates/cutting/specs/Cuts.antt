@@ -1,7 +1,7 @@
 -- Cut lists, rails and the cells between cuts (document 01, "Cuts, cells, rows"). ws are the widths at the heights 0 to t.
 -- Assumes nothing.
 use Prim.Native.Nat.{ℕ, zero, suc, _+_, _-_, _^_, _<_}
-use mathlib.Core.Bool.{Bool, cond}
+use mathlib.Core.Bool.{cond}
 use mathlib.Core.List.{List, [], _∷_, _++_, map}
 use lib.Dec.{eqb, leb}
 use lib.ListN.{getD}

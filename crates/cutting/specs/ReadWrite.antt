@@ -1,10 +1,10 @@
 -- Reading and writing stored cascades (document 01, "Who can cause a refusal").
 -- Assumes nothing.
-use Prim.Native.Nat.{ℕ, _*_}
+use Prim.Native.Nat.{ℕ}
 use mathlib.Core.Bool.{Bool, cond, not}
-use mathlib.Core.List.{List, [], _∷_, _++_}
+use mathlib.Core.List.{List, [], _∷_}
 use lib.Dec.{eqb, ltb}
-use lib.ListN.{length, drop}
+use lib.ListN.{length}
 use Rattle.laws.specs.Lists.{tab, written}
 use Rattle.laws.specs.Bits.{flag}
 use Rattle.cutting.specs.Stored.{recordCount, variable, cutByte, railByte, wellFormed}

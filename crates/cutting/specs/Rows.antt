@@ -1,10 +1,10 @@
 -- The row tables of a cut list (document 01, "Cuts, cells, rows"). f is the function after all merges, ls its layers, ws its widths.
 -- Assumes nothing.
 use Prim.Native.Nat.{ℕ, _+_, _-_, _*_, _/_, _%_, _^_}
-use mathlib.Core.Bool.{Bool, cond}
+use mathlib.Core.Bool.{cond}
 use mathlib.Core.List.{List, [], _∷_, _++_}
 use lib.Dec.{eqb, ltb}
-use lib.ListN.{length, getD}
+use lib.ListN.{getD}
 use Rattle.laws.specs.Tests.{sum}
 use Rattle.laws.specs.Lists.{tab}
 use Rattle.laws.specs.Bits.{flag}

@@ -3,13 +3,12 @@
 use mathlib.Core.Path.{_≡_, refl, sym, _∙_, ap, ap₂}
 use mathlib.Core.Bool.{Bool, true, false, _&&_, _||_}
 use Prim.Native.Nat.{ℕ, zero, suc, _+_, _*_, _/_, _%_, _^_, _<_, _≤_}
-use native.Mathlib.Nat.{mod-lt, div-add-mod', div-one, zero-div, zero-mod, pow-suc, div-eq-of-lt, zero-lt-suc, mod-eq-of-lt, div-lt-iff-lt-mul}
+use native.Mathlib.Nat.{mod-lt, div-add-mod', div-one, zero-div, pow-suc, div-eq-of-lt, div-lt-iff-lt-mul}
 use native.Mathlib.Omega.{arith}
 use lib.Dec.{eqb}
 use lib.Bits.{block-half, block-odd, bitAnd, bitOr, and-shr, or-shr, and-mod, or-mod}
 use lib.Pow.{shr-shr, pow-mono, high}
 use Rattle.laws.specs.Bits.{bit, has, flag}
-use Rattle.laws.proofs.Cases.{by-less}
 
 pub bit-lt : (w i : ℕ) → bit w i < 2
 bit-lt w i = mod-lt (w / 2 ^ i) (omega arith)

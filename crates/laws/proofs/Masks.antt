@@ -3,8 +3,7 @@
 -- Assumes nothing.
 use mathlib.Core.Path.{_≡_, refl, sym, _∙_, ap, ap₂}
 use mathlib.Core.Bool.{Bool, true, false, not, _&&_, _||_, and-true, true≢false}
-use Prim.Native.Nat.{ℕ, zero, suc, _+_, _*_, _/_, _%_, _^_, _<_}
-use native.Mathlib.Nat.{not-suc-le-zero, add-comm, add-zero, div-one, mod-eq-of-lt}
+use Prim.Native.Nat.{ℕ, zero, suc, _*_, _/_, _%_, _^_, _<_}
 use native.Mathlib.Omega.{arith}
 use lib.Dec.{eqb}
 use lib.Bits.{bitAnd, bitOr, bitXor, xor-shr, xor-mod, and-lt, or-lt, xor-lt}
@@ -12,11 +11,11 @@ use lib.Pow.{pow-pos}
 use borrow.Author.Tests.{eqb-true, eq-eqb, not-true}
 use Rattle.laws.specs.Bits.{bit, has, flag}
 use Rattle.laws.specs.Tests.{any, sum, count, least}
-use Rattle.laws.proofs.Cases.{by-test, by-less, last-or-below, and-split, and-join, same-test}
+use Rattle.laws.proofs.Cases.{by-test, by-less, and-split, and-join, same-test}
 use Rattle.laws.proofs.Tests.{any-of, any-at, any-out}
 use Rattle.laws.proofs.Find.{least-before}
 use Rattle.laws.proofs.Powers.{sum-bit, sum-small}
-use Rattle.laws.proofs.Bits.{bit-lt, flag-lt, bit-zero, bit-low, bit-high, flag-has, has-and, has-or, same-bits}
+use Rattle.laws.proofs.Bits.{bit-lt, flag-lt, bit-zero, flag-has, has-and, has-or, same-bits}
 
 -- a test that is both
 pub not-both : {C : Type 0} {b : Bool} → b ≡ true → b ≡ false → C

@@ -6,11 +6,11 @@ use Prim.Native.Nat.{ℕ, zero, suc, _+_, _*_, _<_, _≤_}
 use native.Mathlib.Nat.{not-suc-le-zero, add-zero}
 use native.Mathlib.Numerals.{add-one}
 use native.Mathlib.Omega.{arith}
-use lib.ListN.{length, getD, set, length-set, length-append}
+use lib.ListN.{length, getD, set, length-set}
 use lib.Seq.{getD-set-same, getD-set-other, set-getD, sets, ext-getD}
 use Rattle.laws.specs.Lists.{tab, rect, filled, puts, putsAt}
 use Rattle.laws.proofs.Cases.{last-or-below, by-less}
-use Rattle.laws.proofs.Lists.{length-tab, length-rect, tab-next}
+use Rattle.laws.proofs.Lists.{length-tab, length-rect}
 use Rattle.laws.proofs.Filled.{filled-more}
 
 module _ {A : Type 0} (f : ℕ → A) where

@@ -1,13 +1,13 @@
 -- Laws of `every` and `any`.
 -- Assumes nothing.
 use mathlib.Core.Path.{_≡_, refl, sym, _∙_, ap, ap₂}
-use mathlib.Core.Bool.{Bool, true, false, not, _&&_, _||_, and-false, or-true, false≢true}
+use mathlib.Core.Bool.{Bool, true, false, not, _&&_, _||_, or-true, false≢true}
 use Prim.Native.Nat.{ℕ, zero, suc, _+_, _<_, _≤_}
 use native.Mathlib.Nat.{not-suc-le-zero}
 use native.Mathlib.Numerals.{add-one}
 use native.Mathlib.Omega.{arith}
 use Rattle.laws.specs.Tests.{every, any}
-use Rattle.laws.proofs.Cases.{by-test, last-or-below, and-split, or-split}
+use Rattle.laws.proofs.Cases.{by-test, last-or-below, and-split}
 
 module _ (f : ℕ → Bool) where
   pub every-next : (i : ℕ) → every (i + 1) f ≡ (every i f && f i)

@@ -2,8 +2,8 @@
 -- which common mistakes show.
 -- Assumes nothing.
 use mathlib.Core.Path.{_≡_, refl}
-use mathlib.Core.Bool.{Bool, false}
-use mathlib.Core.List.{List, [], _∷_, _++_, map}
+use mathlib.Core.Bool.{false}
+use mathlib.Core.List.{List, [], _∷_, _++_}
 use Prim.Native.Nat.{ℕ, suc, _-_}
 use lib.ListN.{length}
 use Rattle.laws.specs.Lists.{tab}
@@ -15,8 +15,6 @@ use Rattle.reduction.specs.Opened.{reductionOpened}
 use Rattle.reduction.specs.Columns.{firstsAt, width}
 use Rattle.reduction.specs.Cover.{cover}
 use Rattle.reduction.specs.Merge.{graph, merged, reduced, refuse7}
-use Rattle.reduction.specs.Diagram.{nodes, nodeWords}
-use Rattle.reduction.specs.Walk.{walk}
 
 abbrev job : Job
 job = jobT 3 2

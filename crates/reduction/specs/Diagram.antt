@@ -1,10 +1,10 @@
 -- The node table of a function (document 01, "The diagram"). f is the function after all merges, ls its layers.
 -- Assumes nothing.
 use Prim.Native.Nat.{ℕ, zero, suc, _+_, _-_, _*_}
-use mathlib.Core.Bool.{Bool, cond}
+use mathlib.Core.Bool.{cond}
 use mathlib.Core.List.{List, [], _∷_, _++_}
 use lib.Dec.{eqb}
-use lib.ListN.{length, getD}
+use lib.ListN.{getD}
 use Rattle.laws.specs.Tests.{sum}
 use Rattle.laws.specs.Lists.{tab}
 use Rattle.sheet.specs.Job.{Job, t, ins, outs, varAt, isInput}

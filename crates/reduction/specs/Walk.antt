@@ -2,10 +2,10 @@
 -- at constant 0. Bit h of bits is the value of the variable at height h + 1, input or output.
 -- Assumes nothing.
 use Prim.Native.Nat.{ℕ, zero, suc, _+_, _-_, _*_}
-use mathlib.Core.Bool.{Bool, cond}
+use mathlib.Core.Bool.{cond}
 use mathlib.Core.List.{List}
-use lib.Dec.{ltb, leb}
-use lib.ListN.{length, getD}
+use lib.Dec.{ltb}
+use lib.ListN.{getD}
 use Rattle.laws.specs.Bits.{has}
 
 -- the low and the high child of node v, which is at least 2; a node outside the table has the children 0

@@ -14,7 +14,7 @@ use lib.Dec.{eqb}
 use lib.ListN.{length, getD}
 use Rattle.laws.specs.Lists.{puts, putsAt}
 use Rattle.laws.specs.Bits.{bit}
-use Rattle.laws.proofs.Cases.{same-test, and-split, and-join, and-left-no, cond-same}
+use Rattle.laws.proofs.Cases.{same-test, and-split, and-join, cond-same}
 use Rattle.laws.proofs.Puts.{puts-run, puts-kept, puts-same, puts-over, getD-puts, getD-unput}
 use Rattle.sheet.specs.Planes.{agrees, added, marks, numberTo, CountsUp}
 

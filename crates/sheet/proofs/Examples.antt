@@ -1,11 +1,11 @@
 -- Computed examples: the table of T, which is table 1 of document 000, and its words.
 -- Assumes nothing.
 use mathlib.Core.Path.{_≡_, refl}
-use mathlib.Core.Bool.{Bool, true, false}
+use mathlib.Core.Bool.{true, false}
 use mathlib.Core.List.{List, [], _∷_, _++_}
 use Prim.Native.Nat.{ℕ}
 use Rattle.sheet.specs.Opened.{sheetOpened}
-use Rattle.sheet.specs.Job.{inputList, outputList, wordOf, numberOf}
+use Rattle.sheet.specs.Job.{inputList, wordOf, numberOf}
 use Rattle.sheet.specs.Refusals.{sheetRefusal}
 use Rattle.sheet.specs.Table.{table}
 use Rattle.sheet.specs.Characteristic.{chi}

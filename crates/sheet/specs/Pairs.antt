@@ -4,13 +4,13 @@ use Prim.Native.Nat.{ℕ, _+_, _*_, _^_}
 use mathlib.Core.Bool.{Bool, not, _&&_}
 use mathlib.Core.List.{List}
 use lib.Dec.{eqb, ltb}
-use lib.ListN.{length, getD}
+use lib.ListN.{getD}
 use lib.Bits.{bitAnd, bitXor}
 use Rattle.laws.specs.Tests.{any, sum}
-use Rattle.laws.specs.Bits.{has, flag}
+use Rattle.laws.specs.Bits.{flag}
 use Rattle.sheet.specs.Records.{recordCount, byte, mask, values, names}
-use Rattle.sheet.specs.Job.{Job, outputByte}
-use Rattle.sheet.specs.Refusals.{heightOf, placeOf}
+use Rattle.sheet.specs.Job.{outputByte}
+use Rattle.sheet.specs.Refusals.{placeOf}
 
 -- bytes lo and hi of record r as one number, lo lowest
 abbrev pub pairOf : List ℕ → ℕ → ℕ → ℕ → ℕ

@@ -1,20 +1,16 @@
-use Prim.Native.Nat.{_<_}
-use mathlib.Core.Path.{subst}
-use mathlib.Core.Path.{refl}
-use Prim.Native.Nat.{ℕ, _≤_, _-_, _+_, suc}
-use mathlib.Core.Path.{_≡_, sym, ap, _∙_}
-use mathlib.Core.List.{List, [], _∷_, _++_}
+-- `sheet::lines::input_list` meets its contract.
+-- Assumes nothing.
+use mathlib.Core.Path.{subst, refl, _≡_, sym, ap, _∙_}
+use mathlib.Core.List.{[], _∷_, _++_}
+use Prim.Native.Nat.{_<_, ℕ, _≤_, _-_, _+_, suc}
 use native.Mathlib.Omega.{arith}
-use lib.ListN.{length, getD, set, length-append}
-use lib.Seq.{sets}
+use borrow.Author.Needs.{needs}
+use lib.ListN.{length, getD}
 use Rattle.laws.proofs.Cases.{either}
 use Rattle.sheet.specs.Job.{inputsTo}
 use Rattle.sheet.proofs.Lists.{Listed, listed-more, listed-same, input-here, no-input-here}
-use borrow.Author.Needs.{needs}
 use Rattle.sheet.proofs.lines.input_list.Statement.{statement}
 use Rattle.sheet.proofs.lines.input_list.Tie as tie
-use Rattle.sheet.proofs.lines.input_list.Reads as reads
-use Rattle.sheet.proofs.lines.input_list.Lts as lts
 
 abbrev Inv-loop : tie.InvT-loop
 Inv-loop order list₀ t count₀ h₀ list count h = (h ≤ t) × Listed (inputsTo t order) list₀ list count h
@@ -22,40 +18,31 @@ Inv-loop order list₀ t count₀ h₀ list count h = (h ≤ t) × Listed (input
 abbrev μ-loop : tie.MeasureT-loop
 μ-loop order list₀ t count₀ h₀ list count h = t - h
 
--- src/lines.rt:27:5
 loop-holds : tie.Need-loop-holds Inv-loop μ-loop
 unfolding inputsTo
 loop-holds c = (omega arith, record { few = omega arith; counted = refl; stored = refl })
 
--- src/lines.rt:28:23
 sub-v : tie.Need-sub-v Inv-loop μ-loop
 sub-v c = search needs
 
--- src/lines.rt:28:23
 sub-v-2 : tie.Need-sub-v-2 Inv-loop μ-loop
 sub-v-2 c = search needs
 
--- src/lines.rt:28:17
 shared-slice-read-v : tie.Need-shared-slice-read-v Inv-loop μ-loop
 shared-slice-read-v c = search needs
 
--- src/lines.rt:30:13
 element-write-list : tie.Need-element-write-list Inv-loop μ-loop
 element-write-list c = search needs
 
--- src/lines.rt:31:13
 add-count : tie.Need-add-count Inv-loop μ-loop
 add-count c = search needs
 
--- src/lines.rt:33:9
 add-h : tie.Need-add-h Inv-loop μ-loop
 add-h c = search needs
 
--- src/lines.rt:27:5
 loop-less : tie.Need-loop-less Inv-loop μ-loop
 loop-less c = search needs
 
--- src/lines.rt:27:5
 loop-again : tie.Need-loop-again Inv-loop μ-loop
 loop-again c =
     let l = c .before .before .before .loop in
@@ -74,7 +61,6 @@ loop-again c =
           (listed-same (inputsTo t s) (a .list .now) (l .list) (l .count) (l .h) (l .inv .1) (no-input-here t s (l .h) (subst (λ (k : ℕ). 128 ≤ getD s k 0) e (w .0 .left))))),
     )
 
--- src/lines.rt:18:1
 returns : tie.Need-returns Inv-loop μ-loop
 returns c =
     let l = c .before .loop in

@@ -1,60 +1,49 @@
-use Prim.Native.Nat.{ℕ}
+-- `sheet::lines::write` meets its contract.
+-- Assumes nothing.
 use mathlib.Core.Path.{refl, _∙_, ap}
 use mathlib.Core.List.{List}
+use Prim.Native.Nat.{ℕ}
 use native.Mathlib.Omega.{arith}
+use borrow.Author.Needs.{needs}
 use lib.Seq.{sets}
 use Rattle.sheet.specs.Planes.{outputArray}
 use Rattle.sheet.proofs.Orders.{order-length}
 use Rattle.sheet.proofs.Least.{short}
 use Rattle.sheet.proofs.Made.{lined}
-use borrow.Author.Needs.{needs}
 use Rattle.sheet.proofs.lines.write.Statement.{statement}
 use Rattle.sheet.proofs.lines.write.Tie as tie
-use Rattle.sheet.proofs.lines.write.Reads as reads
-use Rattle.sheet.proofs.lines.write.Lts as lts
-use Rattle.sheet.proofs.lines.number_field.Reads as number-field-reads
-use Rattle.sheet.proofs.lines.output_list.Reads as output-list-reads
-use Rattle.sheet.proofs.lines.plane_of.Reads as plane-of-reads
-use Rattle.sheet.proofs.lines.write_lines.Reads as write-lines-reads
 
--- src/lines.rt:150:5
 number-field-requires : tie.Need-number-field-requires
 number-field-requires c κs =
     let a = c .before .before .before .args in
     let g = c .before .before .before .pre in
     (g .inputs, omega (arith, g .outputs, g .inputs, order-length (a .n) (a .m) (a .order .now) (g .order-whole) (g .inputs) (g .outputs)), short (a .sheet .now) (g .length-good), omega arith, omega arith, refl)
 
--- src/lines.rt:152:5
 number-field-requires-2 : tie.Need-number-field-requires-2
 number-field-requires-2 c κs =
     let a = c .before .before .before .before .before .args in
     let g = c .before .before .before .before .before .pre in
     (g .inputs, omega (arith, g .outputs, g .inputs, order-length (a .n) (a .m) (a .order .now) (g .order-whole) (g .inputs) (g .outputs)), short (a .sheet .now) (g .length-good), omega arith, omega arith, refl)
 
--- src/lines.rt:154:5
 plane-of-requires : tie.Need-plane-of-requires
 plane-of-requires c κs =
     let a = c .before .before .before .before .before .before .before .before .before .args in
     (short (a .sheet .now) (c .before .before .before .before .before .before .before .before .before .pre .length-good), omega arith, refl)
 
--- src/lines.rt:156:5
 plane-of-requires-2 : tie.Need-plane-of-requires-2
 plane-of-requires-2 c κs =
     let a = c .before .before .before .before .before .before .before .before .before .before .before .before .before .args in
     (short (a .sheet .now) (c .before .before .before .before .before .before .before .before .before .before .before .before .before .pre .length-good), omega arith, refl)
 
--- src/lines.rt:158:5
 output-list-requires : tie.Need-output-list-requires
 output-list-requires c κs =
     let a = c .before .before .before .before .before .before .before .before .before .before .before .before .before .before .before .args in
     let g = c .before .before .before .before .before .before .before .before .before .before .before .before .before .before .before .pre in
     omega (arith, g .outputs, g .inputs, order-length (a .n) (a .m) (a .order .now) (g .order-whole) (g .inputs) (g .outputs))
 
--- src/lines.rt:159:5
 write-lines-requires : tie.Need-write-lines-requires
 write-lines-requires c κs = search needs
 
--- src/lines.rt:145:1
 returns : tie.Need-returns
 unfolding outputArray
 returns c =

@@ -1,16 +1,15 @@
-use Prim.Native.Nat.{ℕ, _≤_, _-_}
+-- `sheet::lines::write_line` meets its contract.
+-- Assumes nothing.
 use mathlib.Core.Path.{_≡_, sym}
+use Prim.Native.Nat.{_≤_, _-_}
 use native.Mathlib.Omega.{arith}
+use borrow.Author.Needs.{needs}
 use lib.ListN.{getD}
 use Rattle.laws.specs.Lists.{putsAt}
 use Rattle.laws.proofs.Puts.{putsAt-none, putsAt-next}
 use Rattle.sheet.specs.Planes.{lineValue}
-use borrow.Author.Needs.{needs}
 use Rattle.sheet.proofs.lines.write_line.Statement.{statement}
 use Rattle.sheet.proofs.lines.write_line.Tie as tie
-use Rattle.sheet.proofs.lines.write_line.Reads as reads
-use Rattle.sheet.proofs.lines.write_line.Lts as lts
-use Rattle.sheet.proofs.lines.value_of.Reads as value-of-reads
 
 abbrev Inv-loop : tie.InvT-loop
 Inv-loop count o zeros ones base table₀ x₀ table x = (x ≤ count) × (table ≡ putsAt base x (λ x. lineValue (getD zeros x 0) (getD ones x 0) o) table₀)
@@ -18,41 +17,32 @@ Inv-loop count o zeros ones base table₀ x₀ table x = (x ≤ count) × (table
 abbrev μ-loop : tie.MeasureT-loop
 μ-loop count o zeros ones base table₀ x₀ table x = count - x
 
--- src/lines.rt:80:5
 loop-holds : tie.Need-loop-holds Inv-loop μ-loop
 loop-holds c =
     let a = c .args in
     (omega arith, sym (putsAt-none (λ x. lineValue (getD (a .zeros .now) x 0) (getD (a .ones .now) x 0) (a .o)) (a .base) (a .table .now)))
 
--- src/lines.rt:81:36
 element-copy-out-value-of : tie.Need-element-copy-out-value-of Inv-loop μ-loop
 element-copy-out-value-of c = search needs
 
--- src/lines.rt:81:46
 element-copy-out-value-of-2 : tie.Need-element-copy-out-value-of-2 Inv-loop μ-loop
 element-copy-out-value-of-2 c = search needs
 
--- src/lines.rt:81:27
 value-of-requires : tie.Need-value-of-requires Inv-loop μ-loop
 value-of-requires c κs = search needs
 
--- src/lines.rt:81:15
 add-table : tie.Need-add-table Inv-loop μ-loop
 add-table c = search needs
 
--- src/lines.rt:81:9
 element-write-table : tie.Need-element-write-table Inv-loop μ-loop
 element-write-table c = search needs
 
--- src/lines.rt:82:9
 add-x : tie.Need-add-x Inv-loop μ-loop
 add-x c = search needs
 
--- src/lines.rt:80:5
 loop-less : tie.Need-loop-less Inv-loop μ-loop
 loop-less c = search needs
 
--- src/lines.rt:80:5
 loop-again : tie.Need-loop-again Inv-loop μ-loop
 loop-again c =
     let l = c .before .before .before .before .loop in
@@ -61,7 +51,6 @@ loop-again c =
       putsAt-next (λ x. lineValue (getD (a .zeros .now) x 0) (getD (a .ones .now) x 0) (a .o)) (a .base) (l .x) (a .table .now) (l .table) _ (l .inv .1) (c .value-of .ensures),
     )
 
--- src/lines.rt:66:1
 returns : tie.Need-returns Inv-loop μ-loop
 returns c =
     let l = c .before .loop in

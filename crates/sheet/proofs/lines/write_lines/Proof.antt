@@ -1,25 +1,18 @@
-use Prim.Native.Nat.{_*_, _%_}
-use mathlib.Core.Path.{refl, ap₂, _∙_}
+-- `sheet::lines::write_lines` meets its contract.
+-- Assumes nothing.
+use mathlib.Core.Path.{refl, ap₂, _∙_, _≡_}
+use Prim.Native.Nat.{_*_, _%_, ℕ, _≤_, _-_, _^_}
 use native.Mathlib.Nat.{mod-lt}
-use Rattle.laws.specs.Lists.{putsAt}
-use Rattle.laws.proofs.Lists.{row-end}
-use Rattle.sheet.specs.Planes.{lineValue}
-use Prim.Native.Nat.{ℕ, _≤_, _-_, _^_}
-use mathlib.Core.Path.{_≡_, sym}
 use native.Mathlib.Omega.{arith}
+use borrow.Author.Needs.{needs}
 use lib.ListN.{getD}
 use lib.Seq.{sets}
-use Rattle.laws.specs.Lists.{rect}
+use Rattle.laws.specs.Lists.{putsAt, rect}
+use Rattle.laws.proofs.Lists.{row-end}
 use Rattle.laws.proofs.Puts.{putsAt-rect}
-use Rattle.sheet.specs.Planes.{lineAt}
-use borrow.Author.Needs.{needs}
+use Rattle.sheet.specs.Planes.{lineValue, lineAt}
 use Rattle.sheet.proofs.lines.write_lines.Statement.{statement}
 use Rattle.sheet.proofs.lines.write_lines.Tie as tie
-use Rattle.sheet.proofs.lines.write_lines.Reads as reads
-use Rattle.sheet.proofs.lines.write_lines.Lts as lts
-use Rattle.sheet.proofs.lines.write_line.Reads as write-line-reads
-use Rattle.sheet.proofs.numbers.power.Reads as power-reads
-use Rattle.sheet.proofs.numbers.wide.Reads as wide-reads
 
 abbrev Inv-loop : tie.InvT-loop
 Inv-loop n m list zeros ones table₀ count k₀ table k = (k ≤ m) × (table ≡ sets table₀ 0 (rect k (2 ^ n) (lineAt zeros ones list)))
@@ -27,45 +20,36 @@ Inv-loop n m list zeros ones table₀ count k₀ table k = (k ≤ m) × (table �
 abbrev μ-loop : tie.MeasureT-loop
 μ-loop n m list zeros ones table₀ count k₀ table k = m - k
 
--- src/lines.rt:101:9
 power-requires : tie.Need-power-requires Inv-loop μ-loop
 power-requires c κs = search needs
 
--- src/lines.rt:103:5
 loop-holds : tie.Need-loop-holds Inv-loop μ-loop
 loop-holds c = (omega arith, refl)
 
--- src/lines.rt:104:32
 element-copy-out-wide : tie.Need-element-copy-out-wide Inv-loop μ-loop
 element-copy-out-wide c = search needs
 
--- src/lines.rt:104:27
 wide-requires : tie.Need-wide-requires Inv-loop μ-loop
 wide-requires c κs = search needs
 
--- src/lines.rt:104:59
 mul-write-line : tie.Need-mul-write-line Inv-loop μ-loop
 mul-write-line c =
     let l = c .before .before .before .loop in
     let p = c .before .before .before .before .power in
     omega (arith, row-end (l .k) 8 (p .result) (omega arith))
 
--- src/lines.rt:104:9
 write-line-requires : tie.Need-write-line-requires Inv-loop μ-loop
 write-line-requires c κs =
     let l = c .before .before .before .before .loop in
     let p = c .before .before .before .before .before .power in
     (omega arith, mod-lt (c .before .wide .result) (omega arith), omega (arith, row-end (l .k) 8 (p .result) (omega arith)))
 
--- src/lines.rt:105:9
 add-k : tie.Need-add-k Inv-loop μ-loop
 add-k c = search needs
 
--- src/lines.rt:103:5
 loop-less : tie.Need-loop-less Inv-loop μ-loop
 loop-less c = search needs
 
--- src/lines.rt:103:5
 loop-again : tie.Need-loop-again Inv-loop μ-loop
 unfolding lineAt
 loop-again c =
@@ -80,7 +64,6 @@ loop-again c =
           ∙ putsAt-rect (lineAt z y (a .list .now)) (2 ^ a .n) (l .k) (a .table .now) (l .table) (l .inv .1),
     )
 
--- src/lines.rt:87:1
 returns : tie.Need-returns Inv-loop μ-loop
 returns c =
     let l = c .before .loop in

@@ -2,8 +2,8 @@
 -- Assumes nothing.
 use Prim.Native.Nat.{_≤_, _^_}
 use native.Mathlib.Omega.{arith}
-use lib.Pow.{pow-mono}
 use borrow.Author.Needs.{needs}
+use lib.Pow.{pow-mono}
 use Rattle.sheet.proofs.numbers.power.Statement.{statement}
 use Rattle.sheet.proofs.numbers.power.Tie as tie
 

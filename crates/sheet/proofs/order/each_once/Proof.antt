@@ -1,13 +1,13 @@
 -- `each_once` tests that each of the variables stands in the order once.
 -- Assumes nothing.
-use Prim.Native.Nat.{ℕ, _≤_, _-_, _+_}
 use mathlib.Core.Path.{_≡_, ap}
+use Prim.Native.Nat.{ℕ, _≤_, _-_, _+_}
 use native.Mathlib.Omega.{arith}
-use lib.Dec.{eqb}
-use denote.Ref.{now}
 use borrow.Author.Needs.{needs}
+use lib.Dec.{eqb}
 use Rattle.laws.specs.Tests.{every}
 use Rattle.sheet.specs.Refusals.{times, eachOnce}
+use denote.Ref.{now}
 use Rattle.sheet.proofs.Loops.{every-step}
 use Rattle.sheet.proofs.order.each_once.Statement.{statement}
 use Rattle.sheet.proofs.order.each_once.Tie as tie

@@ -1,18 +1,18 @@
 -- `place_of` finds a variable's place.
 -- Assumes nothing.
-use Prim.Native.Nat.{ℕ, _≤_, _-_}
 use mathlib.Core.Bool.{Bool}
 use mathlib.Core.Path.{_≡_, sym, _∙_}
+use Prim.Native.Nat.{ℕ, _≤_, _-_}
 use native.Mathlib.Nat.{sub-zero}
 use native.Mathlib.Omega.{arith}
-use lib.Dec.{eqb}
-use lib.ListN.{length, getD}
-use denote.Ref.{now}
 use borrow.Author.Tests.{eq-eqb, ne-eqb}
 use borrow.Author.Needs.{needs}
+use lib.Dec.{eqb}
+use lib.ListN.{length, getD}
 use Rattle.laws.specs.Tests.{find}
 use Rattle.laws.proofs.Find.{find-stop, find-skip, find-none}
 use Rattle.sheet.specs.Refusals.{placeOf}
+use denote.Ref.{now}
 use Rattle.sheet.proofs.order.place_of.Statement.{statement}
 use Rattle.sheet.proofs.order.place_of.Tie as tie
 

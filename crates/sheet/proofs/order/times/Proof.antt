@@ -1,18 +1,18 @@
 -- `times` counts a byte in the order.
 -- Assumes nothing.
-use Prim.Native.Nat.{ℕ, _≤_, _-_}
 use mathlib.Core.Bool.{Bool}
 use mathlib.Core.Path.{_≡_, sym, _∙_}
+use Prim.Native.Nat.{ℕ, _≤_, _-_}
 use native.Mathlib.Omega.{arith}
-use lib.Dec.{eqb}
-use lib.ListN.{length, getD}
-use denote.Ref.{now}
 use borrow.Author.Tests.{eq-eqb, ne-eqb}
 use borrow.Author.Needs.{needs}
+use lib.Dec.{eqb}
+use lib.ListN.{length, getD}
 use Rattle.laws.specs.Tests.{count}
 use Rattle.laws.proofs.Counts.{count-yes, count-no}
 use Rattle.laws.proofs.Cases.{either}
 use Rattle.sheet.specs.Refusals.{times}
+use denote.Ref.{now}
 use Rattle.sheet.proofs.order.times.Statement.{statement}
 use Rattle.sheet.proofs.order.times.Tie as tie
 

@@ -1,14 +1,14 @@
 -- `any_crosses` tests the records for each output.
 -- Assumes nothing.
-use Prim.Native.Nat.{ℕ, _≤_, _-_}
 use mathlib.Core.Bool.{Bool}
 use mathlib.Core.Path.{_≡_, _∙_, ap}
+use Prim.Native.Nat.{ℕ, _≤_, _-_}
 use native.Mathlib.Omega.{arith}
-use denote.Ref.{now}
 use borrow.Author.Needs.{needs}
 use Rattle.laws.specs.Tests.{any}
 use Rattle.sheet.specs.Job.{outputByte}
 use Rattle.sheet.specs.Pairs.{belowMask, crosses, anyCrosses}
+use denote.Ref.{now}
 use Rattle.sheet.proofs.Loops.{any-step}
 use Rattle.sheet.proofs.pairs.any_crosses.Statement.{statement}
 use Rattle.sheet.proofs.pairs.any_crosses.Tie as tie

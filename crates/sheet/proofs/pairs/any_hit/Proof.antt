@@ -1,7 +1,7 @@
 -- `any_hit` tests the records of a sheet, loaded into arrays.
 -- Assumes nothing.
-use denote.Ref.{now}
 use borrow.Author.Needs.{needs}
+use denote.Ref.{now}
 use Rattle.sheet.proofs.Loops.{any-hit-of}
 use Rattle.sheet.proofs.pairs.any_hit.Statement.{statement}
 use Rattle.sheet.proofs.pairs.any_hit.Tie as tie

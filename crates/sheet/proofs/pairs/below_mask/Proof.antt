@@ -1,12 +1,12 @@
 -- `below_mask` makes the mask of the inputs below a variable.
 -- Assumes nothing.
-use Prim.Native.Nat.{_≤_, _<_, _-_, _^_}
 use mathlib.Core.Path.{_≡_, refl}
+use Prim.Native.Nat.{_≤_, _<_, _-_, _^_}
 use native.Mathlib.Omega.{arith}
-use denote.Ref.{now}
 use borrow.Author.Needs.{needs}
 use Rattle.laws.proofs.Cases.{either}
 use Rattle.sheet.specs.Pairs.{belowMask}
+use denote.Ref.{now}
 use Rattle.sheet.proofs.Loops.{below-yes, below-no}
 use Rattle.sheet.proofs.pairs.below_mask.Statement.{statement}
 use Rattle.sheet.proofs.pairs.below_mask.Tie as tie

@@ -1,12 +1,12 @@
 -- `hit_before` tests a record against those before it.
 -- Assumes nothing.
-use Prim.Native.Nat.{_≤_, _-_}
 use mathlib.Core.Path.{_≡_, refl}
+use Prim.Native.Nat.{_≤_, _-_}
 use native.Mathlib.Omega.{arith}
-use denote.Ref.{now}
 use borrow.Author.Needs.{needs}
 use Rattle.laws.specs.Tests.{any}
 use Rattle.sheet.specs.Pairs.{hitIn}
+use denote.Ref.{now}
 use Rattle.sheet.proofs.Loops.{any-step}
 use Rattle.sheet.proofs.pairs.hit_before.Statement.{statement}
 use Rattle.sheet.proofs.pairs.hit_before.Tie as tie

@@ -1,17 +1,17 @@
 -- `is_crossed` tests the records against a mask of inputs.
 -- Assumes nothing.
-use Prim.Native.Nat.{ℕ, _/_, _≤_, _-_}
 use mathlib.Core.Path.{_≡_}
 use mathlib.Core.Bool.{Bool, not, _&&_}
+use Prim.Native.Nat.{ℕ, _/_, _≤_, _-_}
 use native.Mathlib.Omega.{arith}
+use borrow.Author.Needs.{needs}
 use lib.ListN.{length}
 use lib.Dec.{eqb}
 use lib.Bits.{bitAnd}
-use denote.Ref.{now}
-use borrow.Author.Needs.{needs}
 use Rattle.laws.specs.Tests.{any}
 use Rattle.sheet.specs.Records.{names, mask}
 use Rattle.sheet.specs.Pairs.{crosses}
+use denote.Ref.{now}
 use Rattle.sheet.proofs.Loops.{any-step, crossed-of}
 use Rattle.sheet.proofs.pairs.is_crossed.Statement.{statement}
 use Rattle.sheet.proofs.pairs.is_crossed.Tie as tie

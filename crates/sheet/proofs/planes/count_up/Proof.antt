@@ -1,16 +1,14 @@
-use mathlib.Core.Path.{sym}
-use Rattle.laws.proofs.Puts.{puts-none}
+-- `sheet::planes::count_up` meets its contract.
+-- Assumes nothing.
+use mathlib.Core.Path.{sym, _≡_}
 use Prim.Native.Nat.{_≤_, _-_}
-use mathlib.Core.Path.{_≡_}
 use native.Mathlib.Nat.{mod-eq-of-lt}
 use native.Mathlib.Omega.{arith}
-use Rattle.laws.specs.Lists.{puts}
-use Rattle.laws.proofs.Puts.{puts-next}
 use borrow.Author.Needs.{needs}
+use Rattle.laws.proofs.Puts.{puts-none, puts-next}
+use Rattle.laws.specs.Lists.{puts}
 use Rattle.sheet.proofs.planes.count_up.Statement.{statement}
 use Rattle.sheet.proofs.planes.count_up.Tie as tie
-use Rattle.sheet.proofs.planes.count_up.Reads as reads
-use Rattle.sheet.proofs.planes.count_up.Lts as lts
 
 abbrev Inv-loop : tie.InvT-loop
 Inv-loop low₀ i₀ low i = (i ≤ 256) × (low ≡ puts i (λ i. i) low₀)
@@ -18,33 +16,26 @@ Inv-loop low₀ i₀ low i = (i ≤ 256) × (low ≡ puts i (λ i. i) low₀)
 abbrev μ-loop : tie.MeasureT-loop
 μ-loop low₀ i₀ low i = 256 - i
 
--- src/planes.rt:27:5
 loop-holds : tie.Need-loop-holds Inv-loop μ-loop
 loop-holds c = (omega arith, sym (puts-none (λ i. i) (c .args .low .now)))
 
--- src/planes.rt:28:18
 cast-low : tie.Need-cast-low Inv-loop μ-loop
 cast-low c = search needs
 
--- src/planes.rt:28:9
 element-write-low : tie.Need-element-write-low Inv-loop μ-loop
 element-write-low c = search needs
 
--- src/planes.rt:29:9
 add-i : tie.Need-add-i Inv-loop μ-loop
 add-i c = search needs
 
--- src/planes.rt:27:5
 loop-less : tie.Need-loop-less Inv-loop μ-loop
 loop-less c = search needs
 
--- src/planes.rt:27:5
 loop-again : tie.Need-loop-again Inv-loop μ-loop
 loop-again c =
     let l = c .before .loop in
     (omega arith, puts-next (λ i. i) (l .i) (c .before .before .args .low .now) (l .low) _ (l .inv .1) (mod-eq-of-lt (omega arith)))
 
--- src/planes.rt:23:1
 returns : tie.Need-returns Inv-loop μ-loop
 returns c =
     let l = c .before .loop in

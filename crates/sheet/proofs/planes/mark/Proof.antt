@@ -1,20 +1,16 @@
-use mathlib.Core.Path.{_∙_, ap}
+-- `sheet::planes::mark` meets its contract.
+-- Assumes nothing.
+use mathlib.Core.Path.{_∙_, ap, _≡_}
 use mathlib.Core.List.{List}
-use lib.ListN.{replicate, length-replicate}
-use Rattle.sheet.proofs.Blocks.{counts-up, marks-start, marks-next}
 use Prim.Native.Nat.{ℕ, _≤_, _-_}
-use mathlib.Core.Path.{_≡_}
 use native.Mathlib.Omega.{arith}
-use lib.ListN.{getD}
+use borrow.Author.Needs.{needs}
+use lib.ListN.{replicate, length-replicate, getD}
 use Rattle.laws.specs.Lists.{puts}
 use Rattle.sheet.specs.Planes.{marks, CountsUp}
-use borrow.Author.Needs.{needs}
+use Rattle.sheet.proofs.Blocks.{counts-up, marks-start, marks-next}
 use Rattle.sheet.proofs.planes.mark.Statement.{statement}
 use Rattle.sheet.proofs.planes.mark.Tie as tie
-use Rattle.sheet.proofs.planes.mark.Reads as reads
-use Rattle.sheet.proofs.planes.mark.Lts as lts
-use Rattle.sheet.proofs.planes.count_up.Reads as count-up-reads
-use Rattle.sheet.proofs.planes.mark_record.Reads as mark-record-reads
 
 abbrev Inv-loop : tie.InvT-loop
 Inv-loop masks values forces count plane₀ low r₀ plane r = (r ≤ count) × CountsUp low × (plane ≡ puts 4096 (λ x. marks (getD plane₀ x 0) masks values forces r x) plane₀)
@@ -22,11 +18,9 @@ Inv-loop masks values forces count plane₀ low r₀ plane r = (r ≤ count) × 
 abbrev μ-loop : tie.MeasureT-loop
 μ-loop masks values forces count plane₀ low r₀ plane r = count - r
 
--- src/planes.rt:87:5
 count-up-requires : tie.Need-count-up-requires Inv-loop μ-loop
 count-up-requires c κs = search needs
 
--- src/planes.rt:89:5
 loop-holds : tie.Need-loop-holds Inv-loop μ-loop
 loop-holds c =
     let a = c .before .before .args in (
@@ -35,46 +29,36 @@ loop-holds c =
       marks-start (a .plane .now) (a .masks .now) (a .values .now) (a .forces .now) 4096,
     )
 
--- src/planes.rt:90:27
 mul-mark-record : tie.Need-mul-mark-record Inv-loop μ-loop
 mul-mark-record c = search needs
 
--- src/planes.rt:90:27
 element-copy-out-mark-record : tie.Need-element-copy-out-mark-record Inv-loop μ-loop
 element-copy-out-mark-record c = search needs
 
--- src/planes.rt:90:37
 mul-mark-record-2 : tie.Need-mul-mark-record-2 Inv-loop μ-loop
 mul-mark-record-2 c = search needs
 
--- src/planes.rt:90:37
 element-copy-out-mark-record-2 : tie.Need-element-copy-out-mark-record-2 Inv-loop μ-loop
 element-copy-out-mark-record-2 c = search needs
 
--- src/planes.rt:90:48
 element-copy-out-mark-record-3 : tie.Need-element-copy-out-mark-record-3 Inv-loop μ-loop
 element-copy-out-mark-record-3 c = search needs
 
--- src/planes.rt:90:9
 mark-record-requires : tie.Need-mark-record-requires Inv-loop μ-loop
 mark-record-requires c κs = c .before .before .before .before .before .before .loop .inv .1
 
--- src/planes.rt:91:9
 add-r : tie.Need-add-r Inv-loop μ-loop
 add-r c = search needs
 
--- src/planes.rt:89:5
 loop-less : tie.Need-loop-less Inv-loop μ-loop
 loop-less c = search needs
 
--- src/planes.rt:89:5
 loop-again : tie.Need-loop-again Inv-loop μ-loop
 loop-again c =
     let l = c .before .before .before .before .before .before .before .loop in
     let a = c .before .before .before .before .before .before .before .before .before .before .args in
     (omega arith, l .inv .1, c .mark-record .ensures ∙ marks-next (a .plane .now) (a .masks .now) (a .values .now) (a .forces .now) (l .plane) 4096 (l .r) (l .inv .2))
 
--- src/planes.rt:72:1
 returns : tie.Need-returns Inv-loop μ-loop
 returns c =
     let l = c .before .loop in

@@ -1,25 +1,19 @@
+-- `sheet::planes::mark_record` meets its contract.
+-- Assumes nothing.
+use mathlib.Core.Path.{sym, ap, _∙_, _≡_}
+use Prim.Native.Nat.{_+_, _/_, _%_, ℕ, _≤_, _-_, _*_}
+use native.Mathlib.Omega.{arith}
 use borrow.Author.Tests.{eq-eqb, ne-eqb}
-use Prim.Native.Nat.{_+_, _/_, _%_}
+use borrow.Author.Needs.{needs}
 use lib.Bits.{bitAnd, bitOr}
 use lib.ListN.{getD}
-use Rattle.laws.specs.Lists.{putsAt}
-use Rattle.sheet.specs.Planes.{added}
-use mathlib.Core.Path.{sym, ap, _∙_}
+use Rattle.laws.specs.Lists.{putsAt, puts}
 use Rattle.laws.proofs.Cases.{either}
 use Rattle.laws.proofs.Puts.{puts-none}
-use Rattle.sheet.proofs.Blocks.{marked-none, block-hit, block-miss}
-use Prim.Native.Nat.{ℕ, _≤_, _-_, _*_}
-use mathlib.Core.Path.{_≡_}
-use native.Mathlib.Omega.{arith}
-use Rattle.laws.specs.Lists.{puts}
-use Rattle.sheet.proofs.Blocks.{marked}
-use borrow.Author.Needs.{needs}
+use Rattle.sheet.specs.Planes.{added}
+use Rattle.sheet.proofs.Blocks.{marked-none, block-hit, block-miss, marked}
 use Rattle.sheet.proofs.planes.mark_record.Statement.{statement}
 use Rattle.sheet.proofs.planes.mark_record.Tie as tie
-use Rattle.sheet.proofs.planes.mark_record.Reads as reads
-use Rattle.sheet.proofs.planes.mark_record.Lts as lts
-use Rattle.sheet.proofs.numbers.wide16.Reads as wide16-reads
-use Rattle.sheet.proofs.planes.mark_block.Reads as mark-block-reads
 
 abbrev Inv-loop : tie.InvT-loop
 Inv-loop low k v f plane₀ b₀ plane b = (b ≤ 16) × (plane ≡ puts (b * 256) (marked plane₀ k v f) plane₀)
@@ -27,7 +21,6 @@ Inv-loop low k v f plane₀ b₀ plane b = (b ≤ 16) × (plane ≡ puts (b * 25
 abbrev μ-loop : tie.MeasureT-loop
 μ-loop low k v f plane₀ b₀ plane b = 16 - b
 
--- src/planes.rt:53:9
 returns : tie.Need-returns Inv-loop μ-loop
 unfolding marked
 returns c =
@@ -35,41 +28,32 @@ returns c =
     let e : a .f ≡ 0 = omega arith in
     marked-none (a .plane .now) (a .k) (a .v) 4096 ∙ ap (λ (f : ℕ). puts 4096 (marked (a .plane .now) (a .k) (a .v) f) (a .plane .now)) (sym e)
 
--- src/planes.rt:56:5
 loop-holds : tie.Need-loop-holds Inv-loop μ-loop
 loop-holds c =
     let a = c .before .args in
     (omega arith, sym (puts-none (marked (a .plane .now) (a .k) (a .v) (a .f)) (a .plane .now)))
 
--- src/planes.rt:60:17
 wide16-requires : tie.Need-wide16-requires Inv-loop μ-loop
 wide16-requires c κs = search needs
 
--- src/planes.rt:60:17
 mul-mark-block : tie.Need-mul-mark-block Inv-loop μ-loop
 mul-mark-block c = search needs
 
--- src/planes.rt:61:17
 cast-mark-block : tie.Need-cast-mark-block Inv-loop μ-loop
 cast-mark-block c = search needs
 
--- src/planes.rt:62:17
 cast-mark-block-2 : tie.Need-cast-mark-block-2 Inv-loop μ-loop
 cast-mark-block-2 c = search needs
 
--- src/planes.rt:58:13
 mark-block-requires : tie.Need-mark-block-requires Inv-loop μ-loop
 mark-block-requires c κs = search needs
 
--- src/planes.rt:67:9
 add-b : tie.Need-add-b Inv-loop μ-loop
 add-b c = search needs
 
--- src/planes.rt:56:5
 loop-less : tie.Need-loop-less Inv-loop μ-loop
 loop-less c = search needs
 
--- src/planes.rt:56:5
 loop-again : tie.Need-loop-again Inv-loop μ-loop
 loop-again c =
     let l = c .before .before .loop in
@@ -84,7 +68,6 @@ loop-again c =
           (λ w. w .1 ∙ block-miss (a .plane .now) (l .plane) (a .k) (a .v) (a .f) (l .b) (l .inv .1) (ne-eqb (bitAnd (l .b) (a .k / 256)) (a .v / 256) (w .0 .left))),
     )
 
--- src/planes.rt:48:1
 returns-2 : tie.Need-returns-2 Inv-loop μ-loop
 unfolding marked
 returns-2 c =

@@ -1,21 +1,19 @@
-use mathlib.Core.Path.{sym}
-use Rattle.laws.proofs.Puts.{puts-none}
-use Prim.Native.Nat.{ℕ, _≤_, _-_, _*_, _^_}
-use mathlib.Core.Path.{_≡_, _∙_, ap, ap₂}
+-- `sheet::planes::move_bit` meets its contract.
+-- Assumes nothing.
+use mathlib.Core.Path.{sym, _≡_, _∙_, ap, ap₂}
 use mathlib.Core.List.{List}
+use Prim.Native.Nat.{ℕ, _≤_, _-_, _*_, _^_}
 use native.Mathlib.Omega.{arith}
+use borrow.Author.Needs.{needs}
 use lib.Bits.{bitOr}
 use lib.ListN.{getD}
 use lib.Pow.{shl-exact}
+use Rattle.laws.proofs.Puts.{puts-none, puts-next, getD-unput}
 use Rattle.laws.specs.Lists.{puts}
 use Rattle.laws.specs.Bits.{bit}
-use Rattle.laws.proofs.Puts.{puts-next, getD-unput}
 use Rattle.laws.proofs.Bits.{bit-lt}
-use borrow.Author.Needs.{needs}
 use Rattle.sheet.proofs.planes.move_bit.Statement.{statement}
 use Rattle.sheet.proofs.planes.move_bit.Tie as tie
-use Rattle.sheet.proofs.planes.move_bit.Reads as reads
-use Rattle.sheet.proofs.planes.move_bit.Lts as lts
 
 abbrev Inv-loop : tie.InvT-loop
 Inv-loop from k words numbers₀ r₀ numbers r = (r ≤ 256) × (numbers ≡ puts r (λ r. bitOr (getD numbers₀ r 0) (bit (getD words r 0) from * 2 ^ k)) numbers₀)
@@ -23,59 +21,45 @@ Inv-loop from k words numbers₀ r₀ numbers r = (r ≤ 256) × (numbers ≡ pu
 abbrev μ-loop : tie.MeasureT-loop
 μ-loop from k words numbers₀ r₀ numbers r = 256 - r
 
--- src/planes.rt:105:5
 loop-holds : tie.Need-loop-holds Inv-loop μ-loop
 loop-holds c = (omega arith, sym (puts-none (λ r. bitOr (getD (c .args .numbers .now) r 0) (bit (getD (c .args .words .now) r 0) (c .args .from) * 2 ^ c .args .k)) (c .args .numbers .now)))
 
--- src/planes.rt:106:22
 mul-numbers : tie.Need-mul-numbers Inv-loop μ-loop
 mul-numbers c = search needs
 
--- src/planes.rt:106:22
 element-copy-out-numbers : tie.Need-element-copy-out-numbers Inv-loop μ-loop
 element-copy-out-numbers c = search needs
 
--- src/planes.rt:106:38
 mul-numbers-2 : tie.Need-mul-numbers-2 Inv-loop μ-loop
 mul-numbers-2 c = search needs
 
--- src/planes.rt:106:38
 element-copy-out-numbers-2 : tie.Need-element-copy-out-numbers-2 Inv-loop μ-loop
 element-copy-out-numbers-2 c = search needs
 
--- src/planes.rt:106:50
 cast-numbers : tie.Need-cast-numbers Inv-loop μ-loop
 cast-numbers c = search needs
 
--- src/planes.rt:106:38
 shr-numbers : tie.Need-shr-numbers Inv-loop μ-loop
 shr-numbers c = search needs
 
--- src/planes.rt:106:64
 cast-numbers-2 : tie.Need-cast-numbers-2 Inv-loop μ-loop
 cast-numbers-2 c = search needs
 
--- src/planes.rt:106:36
 shl-numbers : tie.Need-shl-numbers Inv-loop μ-loop
 shl-numbers c = search needs
 
--- src/planes.rt:106:9
 mul-numbers-3 : tie.Need-mul-numbers-3 Inv-loop μ-loop
 mul-numbers-3 c = search needs
 
--- src/planes.rt:106:9
 element-write-numbers : tie.Need-element-write-numbers Inv-loop μ-loop
 element-write-numbers c = search needs
 
--- src/planes.rt:107:9
 add-r : tie.Need-add-r Inv-loop μ-loop
 add-r c = search needs
 
--- src/planes.rt:105:5
 loop-less : tie.Need-loop-less Inv-loop μ-loop
 loop-less c = search needs
 
--- src/planes.rt:105:5
 loop-again : tie.Need-loop-again Inv-loop μ-loop
 loop-again c =
     let l = c .before .before .before .loop in
@@ -88,7 +72,6 @@ loop-again c =
           (ap₂ bitOr old (shl-exact 1 (a .k) 16 (bit-lt (getD (a .words .now) (l .r) 0) (a .from)) (omega arith))),
     )
 
--- src/planes.rt:96:1
 returns : tie.Need-returns Inv-loop μ-loop
 returns c =
     let l = c .before .loop in

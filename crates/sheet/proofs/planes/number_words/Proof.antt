@@ -1,19 +1,15 @@
-use Prim.Native.Nat.{_%_}
-use mathlib.Core.Path.{_∙_, ap}
-use Rattle.sheet.proofs.Blocks.{numbers-start, numbers-next}
-use Prim.Native.Nat.{ℕ, _≤_, _-_}
-use mathlib.Core.Path.{_≡_}
+-- `sheet::planes::number_words` meets its contract.
+-- Assumes nothing.
+use mathlib.Core.Path.{_∙_, ap, _≡_}
+use Prim.Native.Nat.{_%_, ℕ, _≤_, _-_}
 use native.Mathlib.Omega.{arith}
+use borrow.Author.Needs.{needs}
 use lib.ListN.{getD}
 use Rattle.laws.specs.Lists.{puts}
 use Rattle.sheet.specs.Planes.{numberTo}
-use borrow.Author.Needs.{needs}
+use Rattle.sheet.proofs.Blocks.{numbers-start, numbers-next}
 use Rattle.sheet.proofs.planes.number_words.Statement.{statement}
 use Rattle.sheet.proofs.planes.number_words.Tie as tie
-use Rattle.sheet.proofs.planes.number_words.Reads as reads
-use Rattle.sheet.proofs.planes.number_words.Lts as lts
-use Rattle.sheet.proofs.numbers.wide.Reads as wide-reads
-use Rattle.sheet.proofs.planes.move_bit.Reads as move-bit-reads
 
 abbrev Inv-loop : tie.InvT-loop
 Inv-loop inputs n words numbers₀ k₀ numbers k = (k ≤ n) × (numbers ≡ puts 256 (λ r. numberTo (getD numbers₀ r 0) inputs k (getD words r 0)) numbers₀)
@@ -21,31 +17,24 @@ Inv-loop inputs n words numbers₀ k₀ numbers k = (k ≤ n) × (numbers ≡ pu
 abbrev μ-loop : tie.MeasureT-loop
 μ-loop inputs n words numbers₀ k₀ numbers k = n - k
 
--- src/planes.rt:121:5
 loop-holds : tie.Need-loop-holds Inv-loop μ-loop
 loop-holds c = (omega arith, numbers-start (c .args .numbers .now) (c .args .inputs .now) (c .args .words .now) 256)
 
--- src/planes.rt:122:23
 element-copy-out-wide : tie.Need-element-copy-out-wide Inv-loop μ-loop
 element-copy-out-wide c = search needs
 
--- src/planes.rt:122:18
 wide-requires : tie.Need-wide-requires Inv-loop μ-loop
 wide-requires c κs = search needs
 
--- src/planes.rt:122:9
 move-bit-requires : tie.Need-move-bit-requires Inv-loop μ-loop
 move-bit-requires c κs = search needs
 
--- src/planes.rt:123:9
 add-k : tie.Need-add-k Inv-loop μ-loop
 add-k c = search needs
 
--- src/planes.rt:121:5
 loop-less : tie.Need-loop-less Inv-loop μ-loop
 loop-less c = search needs
 
--- src/planes.rt:121:5
 loop-again : tie.Need-loop-again Inv-loop μ-loop
 loop-again c =
     let l = c .before .before .before .before .before .loop in
@@ -55,7 +44,6 @@ loop-again c =
           ∙ numbers-next (a .numbers .now) (a .inputs .now) (a .words .now) (l .numbers) 256 (l .k) _ (l .inv .1) (ap (λ (x : ℕ). x % 16) (c .before .before .wide .ensures .0)),
     )
 
--- src/planes.rt:112:1
 returns : tie.Need-returns Inv-loop μ-loop
 returns c =
     let l = c .before .loop in

@@ -1,13 +1,13 @@
 -- `any_malformed` is refusal 4's test.
 -- Assumes nothing.
-use Prim.Native.Nat.{_/_, _≤_, _-_}
 use mathlib.Core.Path.{_≡_}
+use Prim.Native.Nat.{_/_, _≤_, _-_}
 use native.Mathlib.Omega.{arith}
-use lib.ListN.{length}
-use denote.Ref.{now}
 use borrow.Author.Needs.{needs}
+use lib.ListN.{length}
 use Rattle.laws.specs.Tests.{any}
 use Rattle.sheet.specs.Refusals.{malformed, anyMalformed}
+use denote.Ref.{now}
 use Rattle.sheet.proofs.Loops.{any-step}
 use Rattle.sheet.proofs.records.any_malformed.Statement.{statement}
 use Rattle.sheet.proofs.records.any_malformed.Tie as tie

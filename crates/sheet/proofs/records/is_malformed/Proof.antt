@@ -1,7 +1,7 @@
 -- `is_malformed` tests one record.
 -- Assumes nothing.
-use denote.Ref.{now}
 use borrow.Author.Needs.{needs}
+use denote.Ref.{now}
 use Rattle.sheet.proofs.Loops.{malformed-of}
 use Rattle.sheet.proofs.records.is_malformed.Statement.{statement}
 use Rattle.sheet.proofs.records.is_malformed.Tie as tie

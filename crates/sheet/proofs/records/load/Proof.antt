@@ -1,14 +1,14 @@
 -- `load` stores two bytes of each record as a number.
 -- Assumes nothing.
-use Prim.Native.Nat.{_≤_, _-_, _/_}
 use mathlib.Core.Path.{_≡_}
+use Prim.Native.Nat.{_≤_, _-_, _/_}
 use native.Mathlib.Omega.{arith}
-use lib.ListN.{length}
-use denote.Ref.{now}
 use borrow.Author.Needs.{needs}
+use lib.ListN.{length}
 use Rattle.laws.specs.Lists.{puts}
 use Rattle.laws.proofs.Puts.{puts-next}
 use Rattle.sheet.specs.Pairs.{pairOf}
+use denote.Ref.{now}
 use Rattle.sheet.proofs.records.load.Statement.{statement}
 use Rattle.sheet.proofs.records.load.Tie as tie
 

@@ -1,14 +1,14 @@
 -- `load_byte` stores one byte of each record.
 -- Assumes nothing.
-use Prim.Native.Nat.{_≤_, _-_, _/_}
 use mathlib.Core.Path.{_≡_, refl}
+use Prim.Native.Nat.{_≤_, _-_, _/_}
 use native.Mathlib.Omega.{arith}
-use lib.ListN.{length}
-use denote.Ref.{now}
 use borrow.Author.Needs.{needs}
+use lib.ListN.{length}
 use Rattle.laws.specs.Lists.{puts}
 use Rattle.laws.proofs.Puts.{puts-next}
 use Rattle.sheet.specs.Records.{byte}
+use denote.Ref.{now}
 use Rattle.sheet.proofs.records.load_byte.Statement.{statement}
 use Rattle.sheet.proofs.records.load_byte.Tie as tie
 
