@@ -62,6 +62,16 @@ pub any-ext : (f g : ℕ → Bool) (n : ℕ) → ((i : ℕ) → i < n → f i �
 any-ext f g zero h = refl
 any-ext f g (suc n) h = ap₂ _||_ (any-ext f g n (λ i p. h i (omega arith))) (h n (omega arith))
 
+-- one of two tests holds at some number
+pub any-or : (f g : ℕ → Bool) (n : ℕ) → (any n f || any n g) ≡ any n (λ i. f i || g i)
+any-or f g zero = refl
+any-or f g (suc n) = or-turn (any n f) (f n) (any n g) (g n) ∙ ap (λ (b : Bool). b || (f n || g n)) (any-or f g n)
+  where
+    or-turn : (a b c d : Bool) → ((a || b) || (c || d)) ≡ ((a || c) || (b || d))
+    or-turn true b c d = refl
+    or-turn false true c d = sym (or-true c)
+    or-turn false false c d = refl
+
 -- none of the tests holds, or not each negated one
 de-morgan : (a b : Bool) → not (a || b) ≡ (not a && not b)
 de-morgan true b = refl

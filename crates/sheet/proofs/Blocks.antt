@@ -1,22 +1,23 @@
--- The loops over planes and numbers, a turn at a time. A block of 256 places whose upper bits disagree with a record is left as it was.
+-- The loops over planes and numbers, a turn at a time. A block of 256 places whose upper bits disagree with a record is left as it was; a
+-- record that tests no upper bits is marked in a row that is spread over the blocks.
 -- Assumes nothing.
 use mathlib.Core.Path.{_≡_, refl, sym, _∙_, ap, ap₂}
 use mathlib.Core.Bool.{Bool, true, false, cond, _&&_}
 use mathlib.Core.List.{List}
 use Prim.Native.Nat.{ℕ, zero, suc, _+_, _*_, _/_, _%_, _^_, _<_, _≤_}
-use native.Mathlib.Nat.{div-add-mod', mod-lt}
+use native.Mathlib.Nat.{div-add-mod', div-eq-of-lt, mod-lt}
 use native.Mathlib.Numerals.{add-one}
 use native.Mathlib.Omega.{arith}
-use borrow.Author.Tests.{eqb-true, eq-eqb}
+use borrow.Author.Tests.{eqb-true, eq-eqb, ne-eqb, ltb-true, ltb-false}
 use lib.Arith.{digits-div, digits-mod}
-use lib.Bits.{bitAnd, bitOr, and-block, and-le-r, or-zero-r}
-use lib.Dec.{eqb}
+use lib.Bits.{bitAnd, bitOr, and-block, and-le-r, and-zero-r, or-zero-l, or-zero-r}
+use lib.Dec.{eqb, ltb}
 use lib.ListN.{length, getD}
 use Rattle.laws.specs.Lists.{puts, putsAt}
 use Rattle.laws.specs.Bits.{bit}
-use Rattle.laws.proofs.Cases.{same-test, and-split, and-join, cond-same}
+use Rattle.laws.proofs.Cases.{by-test, same-test, and-split, and-join, cond-same}
 use Rattle.laws.proofs.Puts.{puts-run, puts-kept, puts-same, puts-over, getD-puts, getD-unput}
-use Rattle.sheet.specs.Planes.{agrees, added, marks, numberTo, CountsUp}
+use Rattle.sheet.specs.Planes.{agrees, added, highForce, lowForce, marks, numberTo, CountsUp}
 
 -- a number in base 256 equals another digit by digit
 digits-equal : (a i v : ℕ) → i < 256 → eqb (a * 256 + i) v ≡ (eqb a (v / 256) && eqb i (v % 256))
@@ -87,22 +88,60 @@ unfolding marked
 marked-none old k v n =
     puts-same (marked old k v 0) n old 0 (λ i h. sym (ap (λ (x : ℕ). bitOr (getD old i 0) x) (added-none k v i) ∙ or-zero-r (getD old i 0)))
 
--- one record more on a plane, one input more of the numbers
-pub marks-next : (old ks vs fs plane : List ℕ) (n r : ℕ) → plane ≡ puts n (λ x. marks (getD old x 0) ks vs fs r x) old
-    → puts n (λ x. bitOr (getD plane x 0) (added (getD ks r 0) (getD vs r 0) (getD fs r 0) x)) plane ≡ puts n (λ x. marks (getD old x 0) ks vs fs (r + 1) x) old
-unfolding marks
-marks-next old ks vs fs plane n r e =
-    let f : ℕ → ℕ = λ x. marks (getD old x 0) ks vs fs r x in
-    let a : ℕ → ℕ = λ x. added (getD ks r 0) (getD vs r 0) (getD fs r 0) x in
-    let g : ℕ → ℕ = λ x. bitOr (getD plane x 0) (a x) in
-    ap (λ (s : List ℕ). puts n g s) e
-    ∙ puts-over f g (λ x. marks (getD old x 0) ks vs fs (suc r) x) n old 0
-    (λ i p q. ap (λ (x : ℕ). bitOr x (a i)) (ap (λ (s : List ℕ). getD s i 0) e ∙ getD-puts f n old 0 i p q))
-    ∙ ap (λ (m : ℕ). puts n (λ x. marks (getD old x 0) ks vs fs m x) old) (sym (add-one r))
+-- the row over one block more
+pub spread-next : (old row plane : List ℕ) (b : ℕ) → plane ≡ puts (b * 256) (λ x. bitOr (getD old x 0) (getD row (x % 256) 0)) old
+    → putsAt (b * 256) 256 (λ i. bitOr (getD plane (b * 256 + i) 0) (getD row i 0)) plane ≡ puts ((b + 1) * 256) (λ x. bitOr (getD old x 0) (getD row (x % 256) 0)) old
+spread-next old row plane b so-far =
+    let f : ℕ → ℕ = λ x. bitOr (getD old x 0) (getD row (x % 256) 0) in
+    let g : ℕ → ℕ = λ i. bitOr (getD plane (b * 256 + i) 0) (getD row i 0) in
+    let end : b * 256 + 256 ≡ (b + 1) * 256 = omega arith in
+    ap (λ (s : List ℕ). putsAt (b * 256) 256 g s) so-far
+    ∙ puts-run f (b * 256) 256 old g
+    (λ i h.
+    ap₂ bitOr (ap (λ (s : List ℕ). getD s (b * 256 + i) 0) so-far ∙ getD-unput f (b * 256) old 0 (b * 256 + i) (omega arith))
+    (ap (λ (x : ℕ). getD row x 0) (sym (digits-mod b h))))
+    ∙ ap (λ (n : ℕ). puts n f old) end
 
-pub marks-start : (old ks vs fs : List ℕ) (n : ℕ) → old ≡ puts n (λ x. marks (getD old x 0) ks vs fs 0 x) old
+-- a record that tests no upper bits has all blocks, or none; what it adds on the plane and in the row together is what it adds
+upper-none : (b k : ℕ) → k < 256 → bitAnd b (k / 256) ≡ 0
+upper-none b k h = ap (bitAnd b) (div-eq-of-lt h) ∙ and-zero-r b
+
+pub added-parts : (k v f x : ℕ) → bitOr (added k v (highForce k f) x) (added (k % 256) (v % 256) (lowForce k v f) (x % 256)) ≡ added k v f x
+unfolding highForce lowForce
+added-parts k v f x =
+    let b = x / 256 in
+    let i = x % 256 in
+    let small : i < 256 = mod-lt x (omega arith) in
+    let whole : b * 256 + i ≡ x = div-add-mod' x 256 in
+    by-test (ltb k 256)
+    (λ p.
+    by-test (ltb v 256)
+    (λ q.
+    rw (p, q)
+    (ap (λ (z : ℕ). bitOr z (added (k % 256) (v % 256) f i)) (added-none k v x) ∙ or-zero-l (added (k % 256) (v % 256) f i)
+    ∙ sym (added-hit k v f b i small (eq-eqb (bitAnd b (k / 256)) (v / 256) (upper-none b k (ltb-true k 256 p) ∙ sym (div-eq-of-lt (ltb-true v 256 q))))) ∙ ap (added k v f) whole))
+    (λ q.
+    rw (p, q)
+    (ap₂ bitOr (added-none k v x) (added-none (k % 256) (v % 256) i)
+    ∙ or-zero-l 0
+    ∙ sym (added-miss k v f b i small (ne-eqb (bitAnd b (k / 256)) (v / 256) (λ e. let z = upper-none b k (ltb-true k 256 p) in let l = ltb-false v 256 q in absurd (omega arith)))) ∙ ap (added k v f) whole)))
+    (λ p. rw p (ap (bitOr (added k v f x)) (added-none (k % 256) (v % 256) i) ∙ or-zero-r (added k v f x)))
+
+-- one record more, of which h x r is what record r adds at place x; one input more of the numbers
+pub marks-next : (h : ℕ → ℕ → ℕ) (old plane : List ℕ) (n r : ℕ) → plane ≡ puts n (λ x. marks (getD old x 0) (h x) r) old
+    → puts n (λ x. bitOr (getD plane x 0) (h x r)) plane ≡ puts n (λ x. marks (getD old x 0) (h x) (r + 1)) old
 unfolding marks
-marks-start old ks vs fs n = puts-same (λ x. marks (getD old x 0) ks vs fs 0 x) n old 0 (λ i h. refl)
+marks-next h old plane n r e =
+    let f : ℕ → ℕ = λ x. marks (getD old x 0) (h x) r in
+    let g : ℕ → ℕ = λ x. bitOr (getD plane x 0) (h x r) in
+    ap (λ (s : List ℕ). puts n g s) e
+    ∙ puts-over f g (λ x. marks (getD old x 0) (h x) (suc r)) n old 0
+    (λ i p q. ap (λ (x : ℕ). bitOr x (h i r)) (ap (λ (s : List ℕ). getD s i 0) e ∙ getD-puts f n old 0 i p q))
+    ∙ ap (λ (m : ℕ). puts n (λ x. marks (getD old x 0) (h x) m) old) (sym (add-one r))
+
+pub marks-start : (h : ℕ → ℕ → ℕ) (old : List ℕ) (n : ℕ) → old ≡ puts n (λ x. marks (getD old x 0) (h x) 0) old
+unfolding marks
+marks-start h old n = puts-same (λ x. marks (getD old x 0) (h x) 0) n old 0 (λ i l. refl)
 
 pub numbers-next : (old is ws numbers : List ℕ) (n k from : ℕ) → numbers ≡ puts n (λ r. numberTo (getD old r 0) is k (getD ws r 0)) old → from ≡ getD is k 0 % 16
     → puts n (λ r. bitOr (getD numbers r 0) (bit (getD ws r 0) from * 2 ^ k)) numbers ≡ puts n (λ r. numberTo (getD old r 0) is (k + 1) (getD ws r 0)) old

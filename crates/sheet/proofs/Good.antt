@@ -55,22 +55,26 @@ good-at n m s e r h =
 
 -- the order has n + m places; a variable in it stands at its place
 module _ (n m : ℕ) (order : List ℕ) (e : notEachOnce n m order ≡ false) where
-  whole : (((eqb (length order) (n + m) && eachOnce order 0 n) ≡ true) × (eachOnce order 128 m ≡ true))
+  pub order-tests : (length order ≡ n + m) × (eachOnce order 0 n ≡ true) × (eachOnce order 128 m ≡ true)
   unfolding notEachOnce
-  whole = and-split (eqb (length order) (n + m) && eachOnce order 0 n) (eachOnce order 128 m) (not-false (eqb (length order) (n + m) && eachOnce order 0 n && eachOnce order 128 m) e)
+  order-tests =
+      let all = not-false (eqb (length order) (n + m) && eachOnce order 0 n && eachOnce order 128 m) e in
+      let both = and-split (eqb (length order) (n + m) && eachOnce order 0 n) (eachOnce order 128 m) all in
+      let first = and-split (eqb (length order) (n + m)) (eachOnce order 0 n) (both .0) in
+      (eqb-true (length order) (n + m) (first .0), first .1, both .1)
 
   pub order-length : length order ≡ n + m
-  order-length = eqb-true (length order) (n + m) (and-split (eqb (length order) (n + m)) (eachOnce order 0 n) (whole .0) .0)
+  order-length = order-tests .0
 
   pub input-once : (i : ℕ) → i < n → times order i ≡ 1
   unfolding eachOnce
   input-once i h =
       ap (times order) (sym (zero-add i))
-      ∙ eqb-true (times order (0 + i)) 1 (every-at (λ k. eqb (times order (0 + k)) 1) n (and-split (eqb (length order) (n + m)) (eachOnce order 0 n) (whole .0) .1) i h)
+      ∙ eqb-true (times order (0 + i)) 1 (every-at (λ k. eqb (times order (0 + k)) 1) n (order-tests .1) i h)
 
   pub output-once : (o : ℕ) → o < m → times order (128 + o) ≡ 1
   unfolding eachOnce
-  output-once o h = eqb-true (times order (128 + o)) 1 (every-at (λ k. eqb (times order (128 + k)) 1) m (whole .1) o h)
+  output-once o h = eqb-true (times order (128 + o)) 1 (every-at (λ k. eqb (times order (128 + k)) 1) m (order-tests .2) o h)
 
 pub place-lt : (order : List ℕ) (v : ℕ) → times order v ≡ 1 → placeOf order v < length order
 unfolding times placeOf

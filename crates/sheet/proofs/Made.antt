@@ -4,21 +4,22 @@ use mathlib.Core.Path.{_≡_, refl, sym, _∙_, ap, ap₂}
 use mathlib.Core.Bool.{Bool, true, false, not, cond, _&&_, _||_}
 use mathlib.Core.List.{List}
 use Prim.Native.Nat.{ℕ, zero, suc, _+_, _-_, _*_, _%_, _^_, _<_, _≤_}
-use native.Mathlib.Nat.{zero-add, mod-eq-of-lt}
+use native.Mathlib.Nat.{zero-add, mod-eq-of-lt, mod-lt}
 use native.Mathlib.Omega.{arith}
 use lib.Dec.{eqb, ltb}
 use lib.ListN.{length, getD, replicate, length-replicate, getD-replicate}
 use lib.Seq.{sets}
+use lib.Bits.{bitOr}
 use lib.Pow.{pow-mono}
 use borrow.Author.Tests.{ltb-false}
 use Rattle.laws.specs.Tests.{any}
 use Rattle.laws.specs.Lists.{puts, rect}
 use Rattle.laws.specs.Bits.{has, flag}
 use Rattle.laws.proofs.Cases.{or-split}
-use Rattle.laws.proofs.Tests.{any-ext, any-out}
+use Rattle.laws.proofs.Tests.{any-ext, any-or, any-out}
 use Rattle.laws.proofs.Lists.{length-rect, rect-ext, rect-each}
 use Rattle.laws.proofs.Filled.{written-sets, getD-written}
-use Rattle.laws.proofs.Puts.{getD-puts}
+use Rattle.laws.proofs.Puts.{getD-puts, length-puts}
 use Rattle.laws.proofs.Bits.{has-or, flag-has}
 use Rattle.laws.proofs.Masks.{has-zero}
 use Rattle.sheet.specs.Records.{recordCount, byte, matches, forces0, forces1}
@@ -27,22 +28,40 @@ use Rattle.sheet.specs.Values.{forcedTo0, forcedTo1, value}
 use Rattle.sheet.specs.Refusals.{refuse3, malformed, anyMalformed}
 use Rattle.sheet.specs.Table.{tableAt, tableOf}
 use Rattle.sheet.specs.Pairs.{pairOf}
-use Rattle.sheet.specs.Planes.{agrees, added, marks, numberTo, lineValue, inputArray, outputArray, fieldArray, byteArray, numberArray, numberedField, planeOf, lineAt, madeTable, Readable}
-use Rattle.sheet.proofs.Orders.{order-length, inputs-length, outputs-length, input-below, output-below}
+use Rattle.sheet.specs.Planes.{agrees, added, highAdded, lowAdded, marks, numberTo, lineValue, inputArray, outputArray, fieldArray, byteArray, numberArray, numberedField, highPlane, lowRow, planeOf, lineAt, madeTable, Readable}
+use Rattle.sheet.proofs.Good.{order-length}
+use Rattle.sheet.proofs.Orders.{inputs-length, outputs-length, input-below, output-below}
 use Rattle.sheet.proofs.Words.{matches-number, numberTo-is}
 use Rattle.sheet.proofs.Clashes.{value-below}
+use Rattle.sheet.proofs.Blocks.{added-parts}
 
 -- an output is forced at a place where a record forces it that has the place
 has-cond : (b : Bool) (f o : ℕ) → has (cond b f 0) o ≡ (b && has f o)
 has-cond true f o = refl
 has-cond false f o = has-zero o
 
-pub marks-has : (ks vs fs : List ℕ) (r x o : ℕ) → has (marks 0 ks vs fs r x) o ≡ any r (λ q. agrees (getD ks q 0) (getD vs q 0) x && has (getD fs q 0) o)
-unfolding marks added
-marks-has ks vs fs zero x o = has-zero o
-marks-has ks vs fs (suc r) x o =
-    has-or (marks 0 ks vs fs r x) (added (getD ks r 0) (getD vs r 0) (getD fs r 0) x) o
-    ∙ ap₂ _||_ (marks-has ks vs fs r x o) (has-cond (agrees (getD ks r 0) (getD vs r 0) x) (getD fs r 0) o)
+added-has : (k v f x o : ℕ) → has (added k v f x) o ≡ (agrees k v x && has f o)
+unfolding added
+added-has k v f x o = has-cond (agrees k v x) f o
+
+marks-has : (g : ℕ → ℕ) (r o : ℕ) → has (marks 0 g r) o ≡ any r (λ q. has (g q) o)
+unfolding marks
+marks-has g zero o = has-zero o
+marks-has g (suc r) o = has-or (marks 0 g r) (g r) o ∙ ap (λ (b : Bool). b || has (g r) o) (marks-has g r o)
+
+-- the plane and the row together
+parts-has : (ks vs fs : List ℕ) (n x o : ℕ)
+    → has (bitOr (marks 0 (highAdded ks vs fs x) n) (marks 0 (lowAdded ks vs fs (x % 256)) n)) o
+    ≡ any n (λ r. agrees (getD ks r 0) (getD vs r 0) x && has (getD fs r 0) o)
+unfolding highAdded lowAdded
+parts-has ks vs fs n x o =
+    let g : ℕ → ℕ = highAdded ks vs fs x in
+    let h : ℕ → ℕ = lowAdded ks vs fs (x % 256) in
+    has-or (marks 0 g n) (marks 0 h n) o ∙ ap₂ _||_ (marks-has g n o) (marks-has h n o) ∙ any-or (λ r. has (g r) o) (λ r. has (h r) o) n
+    ∙ any-ext (λ r. has (g r) o || has (h r) o) (λ r. agrees (getD ks r 0) (getD vs r 0) x && has (getD fs r 0) o) n
+    (λ r l.
+    sym (has-or (g r) (h r) o) ∙ ap (λ (z : ℕ). has z o) (added-parts (getD ks r 0) (getD vs r 0) (getD fs r 0) x)
+    ∙ added-has (getD ks r 0) (getD vs r 0) (getD fs r 0) x o)
 
 -- arrays of any size that hold zeros before anything is stored
 stored : (size n : ℕ) (f : ℕ → ℕ) (i : ℕ) → n ≤ size → i < n → getD (puts n f (replicate size 0)) i 0 ≡ f i
@@ -71,9 +90,27 @@ number-at : (is ws : List ℕ) (n r : ℕ) → r < 256 → getD (numberArray is 
 unfolding numberArray
 number-at is ws n r = stored-over 256 (λ a k. numberTo a is n (getD ws k 0)) r
 
-plane-at : (ks vs s : List ℕ) (at x : ℕ) → x < 4096 → getD (planeOf ks vs s at) x 0 ≡ marks 0 ks vs (byteArray s at) (recordCount s) x
+high-at : (ks vs s : List ℕ) (at x : ℕ) → x < 4096 → getD (highPlane ks vs s at) x 0 ≡ marks 0 (highAdded ks vs (byteArray s at) x) (recordCount s)
+unfolding highPlane
+high-at ks vs s at x = stored-over 4096 (λ a k. marks a (highAdded ks vs (byteArray s at) k) (recordCount s)) x
+
+low-at : (ks vs s : List ℕ) (at i : ℕ) → i < 256 → getD (lowRow ks vs s at) i 0 ≡ marks 0 (lowAdded ks vs (byteArray s at) i) (recordCount s)
+unfolding lowRow
+low-at ks vs s at i = stored-over 256 (λ a k. marks a (lowAdded ks vs (byteArray s at) k) (recordCount s)) i
+
+high-length : (ks vs s : List ℕ) (at : ℕ) → length (highPlane ks vs s at) ≡ 4096
+unfolding highPlane
+high-length ks vs s at =
+    length-puts (λ x. marks (getD (replicate 4096 0) x 0) (highAdded ks vs (byteArray s at) x) (recordCount s)) 4096 (replicate 4096 0) ∙ length-replicate {A = ℕ} 4096 0
+
+plane-at : (ks vs s : List ℕ) (at x : ℕ) → x < 4096
+    → getD (planeOf ks vs s at) x 0
+    ≡ bitOr (marks 0 (highAdded ks vs (byteArray s at) x) (recordCount s)) (marks 0 (lowAdded ks vs (byteArray s at) (x % 256)) (recordCount s))
 unfolding planeOf
-plane-at ks vs s at x = stored-over 4096 (λ a k. marks a ks vs (byteArray s at) (recordCount s) k) x
+plane-at ks vs s at x h =
+    getD-puts (λ k. bitOr (getD (highPlane ks vs s at) k 0) (getD (lowRow ks vs s at) (k % 256) 0)) 4096 (highPlane ks vs s at) 0 x h
+    (omega (arith, high-length ks vs s at))
+    ∙ ap₂ bitOr (high-at ks vs s at x h) (low-at ks vs s at (x % 256) (mod-lt x (omega arith)))
 
 -- the value as the code computes it
 choice : (p q : Bool) → (1 - flag p) * (2 - flag q) ≡ cond p 0 (cond q 1 2)
@@ -94,7 +131,7 @@ module _ (n m : ℕ) (order s : List ℕ) (c : Readable n m order s) where
       omega arith
 
   order-is : length order ≡ n + m
-  order-is = order-length n m order (c .order-whole) (c .inputs) (c .outputs)
+  order-is = order-length n m order (c .order-whole)
 
   input-at : (k : ℕ) → k < n → getD (inputArray order) k 0 ≡ getD (inputsTo (n + m) order (n + m)) k 0
   unfolding inputArray
@@ -143,7 +180,7 @@ module _ (n m : ℕ) (order s : List ℕ) (c : Readable n m order s) where
       let w = wordOf (inputsTo (n + m) order (n + m)) x in
       let low = pow-mono (c .inputs) in
       ap (λ (z : ℕ). has z o) (plane-at ks vs s at x (omega arith))
-      ∙ marks-has ks vs (byteArray s at) (recordCount s) x o
+      ∙ parts-has ks vs (byteArray s at) (recordCount s) x o
       ∙ any-ext (λ r. agrees (getD ks r 0) (getD vs r 0) x && has (getD (byteArray s at) r 0) o) (λ r. matches s r w && has (byte s r at) o) (recordCount s)
       (λ r h. ap₂ (λ (p : Bool) (f : ℕ). p && has f o) (has-place r x h l) (byte-at s at r few h))
 
@@ -184,10 +221,12 @@ pub numbered : (n : ℕ) (order s : List ℕ) (lo hi : ℕ) (old is ws : List �
 unfolding numberedField numberArray
 numbered n order s lo hi old is ws p q e = rw (p, q, e) refl
 
-pub planed : (ks vs s : List ℕ) (at : ℕ) (old fs : List ℕ) → old ≡ replicate 4096 0 → fs ≡ byteArray s at
-    → puts 4096 (λ x. marks (getD old x 0) ks vs fs (recordCount s) x) old ≡ planeOf ks vs s at
-unfolding planeOf
-planed ks vs s at old fs p q = rw (p, q) refl
+pub planed : (ks vs s : List ℕ) (at : ℕ) (old fs plane row : List ℕ) → old ≡ replicate 4096 0 → fs ≡ byteArray s at
+    → plane ≡ puts 4096 (λ x. marks (getD old x 0) (highAdded ks vs fs x) (recordCount s)) old
+    → row ≡ puts 256 (λ i. marks (getD (replicate 256 0) i 0) (lowAdded ks vs fs i) (recordCount s)) (replicate 256 0)
+    → puts 4096 (λ x. bitOr (getD plane x 0) (getD row (x % 256) 0)) plane ≡ planeOf ks vs s at
+unfolding planeOf highPlane lowRow
+planed ks vs s at old fs plane row p q e f = rw (e, f, p, q) refl
 
 pub lined : (n m : ℕ) (order s : List ℕ) → Readable n m order s → (ks vs zs ys os : List ℕ) → ks ≡ numberedField n order s 0 1 → vs ≡ numberedField n order s 2 3
     → zs ≡ planeOf ks vs s 4

@@ -2,7 +2,7 @@
 -- listed twice.
 -- Assumes nothing.
 use mathlib.Core.Path.{_≡_, refl, sym, _∙_, ap}
-use mathlib.Core.Bool.{Bool, true, false, not, cond, _&&_, _||_, true≢false}
+use mathlib.Core.Bool.{Bool, true, false, not, cond, _||_, true≢false}
 use mathlib.Core.List.{List, [], _∷_, _++_}
 use Prim.Native.Nat.{ℕ, zero, suc, _+_, _-_, _<_, _≤_}
 use native.Mathlib.Nat.{not-suc-le-zero}
@@ -10,14 +10,15 @@ use native.Mathlib.Omega.{arith}
 use lib.Dec.{eqb}
 use lib.ListN.{length, getD, length-append, List·getD-append}
 use lib.Seq.{getD-at}
-use borrow.Author.Tests.{eqb-true, eq-eqb, ne-eqb, ltb-true, lt-ltb, le-ltb, not-true, not-false}
+use borrow.Author.Tests.{eqb-true, eq-eqb, ne-eqb, ltb-true, lt-ltb, le-ltb, not-true}
 use Rattle.laws.specs.Tests.{count, any}
 use Rattle.laws.specs.Bits.{flag}
-use Rattle.laws.proofs.Cases.{by-test, last-or-below, and-split, no-test, same-test}
+use Rattle.laws.proofs.Cases.{by-test, last-or-below, no-test, same-test}
 use Rattle.laws.proofs.Tests.{any-at, any-of, every-at}
 use Rattle.laws.proofs.Counts.{count-ext, count-none, count-lt}
 use Rattle.sheet.specs.Job.{isInput, inputsTo, outputsTo}
 use Rattle.sheet.specs.Refusals.{times, eachOnce, notEachOnce}
+use Rattle.sheet.proofs.Good.{order-tests, order-length}
 
 -- a count as a sum, from its end and from its front, and counted backwards
 cond-flag : (b : Bool) (k : ℕ) → cond b (k + 1) k ≡ k + flag b
@@ -185,22 +186,11 @@ abbrev lowered : ℕ → List ℕ → ℕ → ℕ
 lowered t order k = up t order k - 128
 
 module _ (n m : ℕ) (order : List ℕ) (once : notEachOnce n m order ≡ false) (few : n ≤ 12) (out : m ≤ 8) where
-  tests-of : (length order ≡ n + m) × (eachOnce order 0 n ≡ true) × (eachOnce order 128 m ≡ true)
-  unfolding notEachOnce
-  tests-of =
-      let all = not-false _ once in
-      let both = and-split (eqb (length order) (n + m) && eachOnce order 0 n) (eachOnce order 128 m) all in
-      let first = and-split (eqb (length order) (n + m)) (eachOnce order 0 n) (both .0) in
-      (eqb-true (length order) (n + m) (first .0), first .1, both .1)
-
-  pub order-length : length order ≡ n + m
-  order-length = tests-of .0
-
   up-once : (a k : ℕ) → eachOnce order a k ≡ true → (v : ℕ) → v < k → count (n + m) (λ i. eqb (up (n + m) order i) (a + v)) ≡ 1
   unfolding eachOnce times
   up-once a k e v h =
       count-back (λ i. eqb (getD order i 0) (a + v)) (n + m)
-      ∙ ap (λ (t : ℕ). count t (λ i. eqb (getD order i 0) (a + v))) (sym order-length)
+      ∙ ap (λ (t : ℕ). count t (λ i. eqb (getD order i 0) (a + v))) (sym (order-length n m order once))
       ∙ eqb-true (times order (a + v)) 1 (every-at (λ i. eqb (times order (a + i)) 1) k e v h)
 
   apart : (i : ℕ) → among (up (n + m) order) 0 n i ≡ true → among (up (n + m) order) 128 m i ≡ false
@@ -210,10 +200,10 @@ module _ (n m : ℕ) (order : List ℕ) (once : notEachOnce n m order ≡ false)
 
   -- every variable is an input or an output
   input-count : count (n + m) (among (up (n + m) order) 0 n) ≡ n
-  input-count = count-among (up (n + m) order) 0 (n + m) n (up-once 0 n (tests-of .1))
+  input-count = count-among (up (n + m) order) 0 (n + m) n (up-once 0 n (order-tests n m order once .1))
 
   output-count : count (n + m) (among (up (n + m) order) 128 m) ≡ m
-  output-count = count-among (up (n + m) order) 128 (n + m) m (up-once 128 m (tests-of .2))
+  output-count = count-among (up (n + m) order) 128 (n + m) m (up-once 128 m (order-tests n m order once .2))
 
   covered : (i : ℕ) → i < n + m → among (up (n + m) order) 0 n i ≡ false → among (up (n + m) order) 128 m i ≡ true
   covered =
@@ -292,7 +282,7 @@ module _ (n m : ℕ) (order : List ℕ) (once : notEachOnce n m order ≡ false)
   input-once : (k q : ℕ) → k < n + m → q < n + m → isIn (n + m) order k ≡ true → up (n + m) order k ≡ up (n + m) order q → k ≡ q
   input-once k q h l a e =
       let v = among-at (up (n + m) order) 0 n k (sym (input-is k h) ∙ a) in
-      count-once (λ i. eqb (up (n + m) order i) (0 + v .0)) (n + m) k q (omega (arith, up-once 0 n (tests-of .1) (v .0) (v .1))) h l
+      count-once (λ i. eqb (up (n + m) order i) (0 + v .0)) (n + m) k q (omega (arith, up-once 0 n (order-tests n m order once .1) (v .0) (v .1))) h l
       (eq-eqb (up (n + m) order k) (0 + v .0) (v .2)) (eq-eqb (up (n + m) order q) (0 + v .0) (sym e ∙ v .2))
 
   pub inputs-distinct : (k q : ℕ) → k < n → q < n
@@ -303,7 +293,7 @@ module _ (n m : ℕ) (order : List ℕ) (once : notEachOnce n m order ≡ false)
 
   pub inputs-all : (i : ℕ) → i < n → (k : ℕ) × (k < n) × (getD (inputsTo (n + m) order (n + m)) k 0 ≡ i)
   inputs-all i h =
-      let r = count-place (λ k. eqb (up (n + m) order k) (0 + i)) (n + m) 0 (omega (arith, up-once 0 n (tests-of .1) i h)) in
+      let r = count-place (λ k. eqb (up (n + m) order k) (0 + i)) (n + m) 0 (omega (arith, up-once 0 n (order-tests n m order once .1) i h)) in
       let e : up (n + m) order (r .0) ≡ 0 + i = eqb-true (up (n + m) order (r .0)) (0 + i) (r .2) in
       let c : isIn (n + m) order (r .0) ≡ true = lt-ltb (up (n + m) order (r .0)) 128 (omega arith) in
       let l = count-before (isIn (n + m) order) (n + m) (r .0) (r .1) c in

@@ -3,14 +3,14 @@
 -- Assumes nothing.
 use mathlib.Core.Path.{_≡_}
 use Prim.Native.Nat.{ℕ, zero, suc, _-_, _*_, _%_, _^_, _≤_, _<_}
-use mathlib.Core.Bool.{Bool, false, cond}
+use mathlib.Core.Bool.{Bool, false, cond, _&&_}
 use mathlib.Core.List.{List}
 use lib.Seq.{sets}
 use Rattle.laws.specs.Lists.{puts, rect}
 use Rattle.sheet.specs.Records.{recordCount, byte}
 use Rattle.sheet.specs.Job.{inputsTo, outputsTo}
 use Rattle.sheet.specs.Pairs.{pairOf}
-use lib.Dec.{eqb}
+use lib.Dec.{eqb, ltb}
 use lib.ListN.{length, getD, replicate}
 use lib.Bits.{bitAnd, bitOr}
 use Rattle.laws.specs.Bits.{bit}
@@ -24,11 +24,26 @@ agrees k v x = eqb (bitAnd x k) v
 unfoldable pub added : ℕ → ℕ → ℕ → ℕ → ℕ
 added k v f x = cond (agrees k v x) f 0
 
--- what the first r records force at place x, over what was there: ks are their masks and vs their values as numbers read down the order,
--- fs the outputs forced
-unfoldable pub marks : ℕ → List ℕ → List ℕ → List ℕ → ℕ → ℕ → ℕ
-marks old ks vs fs zero x = old
-marks old ks vs fs (suc r) x = bitOr (marks old ks vs fs r x) (added (getD ks r 0) (getD vs r 0) (getD fs r 0) x)
+-- A record whose mask k is below 256 tests none of the upper four bits of a place: it is the same in each block of 256 places, and is marked
+-- once, in a row of 256. The outputs f of the others, and of those. (Where k is below 256 and v is not, the record has no place.)
+unfoldable pub highForce : ℕ → ℕ → ℕ
+highForce k f = cond (ltb k 256) 0 f
+
+unfoldable pub lowForce : ℕ → ℕ → ℕ → ℕ
+lowForce k v f = cond (ltb k 256 && ltb v 256) f 0
+
+-- what record r adds at place x of the plane, and at place i of the row: ks are the records' masks and vs their values as numbers read down
+-- the order, fs the outputs forced
+unfoldable pub highAdded : List ℕ → List ℕ → List ℕ → ℕ → ℕ → ℕ
+highAdded ks vs fs x r = added (getD ks r 0) (getD vs r 0) (highForce (getD ks r 0) (getD fs r 0)) x
+
+unfoldable pub lowAdded : List ℕ → List ℕ → List ℕ → ℕ → ℕ → ℕ
+lowAdded ks vs fs i r = added (getD ks r 0 % 256) (getD vs r 0 % 256) (lowForce (getD ks r 0) (getD vs r 0) (getD fs r 0)) i
+
+-- what the first r records add, over what was there
+unfoldable pub marks : ℕ → (ℕ → ℕ) → ℕ → ℕ
+marks old g zero = old
+marks old g (suc r) = bitOr (marks old g r) (g r)
 
 -- the number of the word w, of which the lowest k inputs of the list are read, over what was there. (A word has 16 bits.)
 unfoldable pub numberTo : ℕ → List ℕ → ℕ → ℕ → ℕ
@@ -40,7 +55,7 @@ unfoldable pub lineValue : ℕ → ℕ → ℕ → ℕ
 lineValue z y o = (1 - bit z o) * (2 - bit y o)
 
 -- The steps of the code, from arrays of zeros on: the inputs and the outputs of the order, lowest first; bytes lo and hi of each record
--- as numbers read down the order; what the outputs of byte at force, place by place; the table
+-- as numbers read down the order; what the outputs of byte at force, place by place, from the plane and the row; the table
 unfoldable pub inputArray : List ℕ → List ℕ
 inputArray order = sets (replicate 20 0) 0 (inputsTo (length order) order (length order))
 
@@ -59,8 +74,14 @@ numberArray is n ws = puts 256 (λ r. numberTo (getD (replicate 256 0) r 0) is n
 unfoldable pub numberedField : ℕ → List ℕ → List ℕ → ℕ → ℕ → List ℕ
 numberedField n order s lo hi = numberArray (inputArray order) n (fieldArray s lo hi)
 
+unfoldable pub highPlane : List ℕ → List ℕ → List ℕ → ℕ → List ℕ
+highPlane ks vs s at = puts 4096 (λ x. marks (getD (replicate 4096 0) x 0) (highAdded ks vs (byteArray s at) x) (recordCount s)) (replicate 4096 0)
+
+unfoldable pub lowRow : List ℕ → List ℕ → List ℕ → ℕ → List ℕ
+lowRow ks vs s at = puts 256 (λ i. marks (getD (replicate 256 0) i 0) (lowAdded ks vs (byteArray s at) i) (recordCount s)) (replicate 256 0)
+
 unfoldable pub planeOf : List ℕ → List ℕ → List ℕ → ℕ → List ℕ
-planeOf ks vs s at = puts 4096 (λ x. marks (getD (replicate 4096 0) x 0) ks vs (byteArray s at) (recordCount s) x) (replicate 4096 0)
+planeOf ks vs s at = puts 4096 (λ x. bitOr (getD (highPlane ks vs s at) x 0) (getD (lowRow ks vs s at) (x % 256) 0)) (highPlane ks vs s at)
 
 unfoldable pub lineAt : List ℕ → List ℕ → List ℕ → ℕ → ℕ → ℕ
 lineAt zs ys os k x = lineValue (getD zs x 0) (getD ys x 0) (getD os k 0 % 8)

@@ -9,8 +9,10 @@ ghost use Rattle.sheet.specs.Table.{tableOf};
 ghost use Rattle.sheet.specs.Planes.{lineValue, lineAt, Readable, numberedField, planeOf};
 use crate::numbers::power;
 use crate::numbers::wide;
-use crate::planes::mark;
+use crate::planes::mark_high;
+use crate::planes::mark_low;
 use crate::planes::number_words;
+use crate::planes::spread;
 use crate::records::load;
 use crate::records::load_byte;
 
@@ -138,7 +140,11 @@ fn plane_of(
 {
     let mut forces = [0u8; 256];
     load_byte(sheet, at, &mut forces);
-    mark(masks, values, &forces, sheet.len() / 8, plane);
+    let count = sheet.len() / 8;
+    mark_high(masks, values, &forces, count, plane);
+    let mut row = [0u8; 256];
+    mark_low(masks, values, &forces, count, &mut row);
+    spread(&row, plane);
 }
 
 // The whole table.

@@ -1,11 +1,12 @@
-// Planes: for each of 4,096 places the outputs that the records matching it force.
+// Planes: for each of 4,096 places the outputs that the records matching it force. Records that test none of the upper four bits of a
+// place are marked once, in a row of 256 places, and the row is spread over the plane.
 ghost use mathlib.Core.Path.{_≡_};
-ghost use Prim.Native.Nat.{ℕ, _≤_, _<_, _+_, _*_, _/_, _^_};
+ghost use Prim.Native.Nat.{ℕ, _≤_, _<_, _+_, _*_, _/_, _%_, _^_};
 ghost use lib.Bits.{bitAnd, bitOr};
 ghost use lib.ListN.{length, getD};
 ghost use Rattle.laws.specs.Lists.{puts, putsAt};
 ghost use Rattle.laws.specs.Bits.{bit};
-ghost use Rattle.sheet.specs.Planes.{added, marks, numberTo, CountsUp};
+ghost use Rattle.sheet.specs.Planes.{added, highForce, lowForce, highAdded, lowAdded, marks, numberTo, CountsUp};
 use crate::numbers::wide;
 use crate::numbers::wide16;
 
@@ -68,8 +69,28 @@ fn mark_record(low: &[u8; 256], k: u16, v: u16, f: u8, plane: &mut [u8; 4096])
     }
 }
 
-// What the first count records force.
-pub fn mark(
+// The outputs f of a record with the mask k, if it tests one of the upper four bits of a place, else none.
+fn high_force(k: u16, f: u8) -> u8
+    ensures { λ r. ⌜ r ≡ highForce k f ⌝ }
+{
+    if k < 256 {
+        return 0;
+    }
+    f
+}
+
+// The outputs f of a record with the mask k and the values v, if it tests none of the upper four bits, else none.
+fn low_force(k: u16, v: u16, f: u8) -> u8
+    ensures { λ r. ⌜ r ≡ lowForce k v f ⌝ }
+{
+    if (k < 256) & (v < 256) {
+        return f;
+    }
+    0
+}
+
+// What the first count records that test upper bits force.
+pub fn mark_high(
     masks: &[u16; 256],
     values: &[u16; 256],
     forces: &[u8; 256],
@@ -80,15 +101,93 @@ pub fn mark(
     ensures { λ _.
         ⌜ now (plane .exit)
         ≡ puts 4096
-        (λ x. marks (getD (now (plane .entry)) x 0) (now (masks .entry)) (now (values .entry)) (now (forces .entry)) count x)
+        (λ x. marks (getD (now (plane .entry)) x 0) (highAdded (now (masks .entry)) (now (values .entry)) (now (forces .entry)) x) count)
         (now (plane .entry)) ⌝ }
 {
     let mut low = [0u8; 256];
     count_up(&mut low);
     let mut r = 0;
     while r < count {
-        mark_record(&low, masks[r], values[r], forces[r], plane);
+        mark_record(
+            &low,
+            masks[r],
+            values[r],
+            high_force(masks[r], forces[r]),
+            plane,
+        );
         r += 1;
+    }
+}
+
+// Every place of the row that agrees with v on k gets the outputs f.
+fn mark_row(low: &[u8; 256], k: u8, v: u8, f: u8, row: &mut [u8; 256])
+    requires { ⌜ CountsUp (now low) ⌝ }
+    ensures { λ _. ⌜ now (row .exit) ≡ puts 256 (λ i. bitOr (getD (now (row .entry)) i 0) (added k v f i)) (now (row .entry)) ⌝ }
+{
+    if f == 0 {
+        return;
+    }
+    let mut i = 0;
+    while i < 256 {
+        row[i] = row[i] | added_at(k, v, f, low[i]);
+        i += 1;
+    }
+}
+
+// What the first count records that test no upper bits force.
+pub fn mark_low(
+    masks: &[u16; 256],
+    values: &[u16; 256],
+    forces: &[u8; 256],
+    count: usize,
+    row: &mut [u8; 256],
+)
+    requires { ⌜ count ≤ 256 ⌝ }
+    ensures { λ _.
+        ⌜ now (row .exit)
+        ≡ puts 256
+        (λ i. marks (getD (now (row .entry)) i 0) (lowAdded (now (masks .entry)) (now (values .entry)) (now (forces .entry)) i) count)
+        (now (row .entry)) ⌝ }
+{
+    let mut low = [0u8; 256];
+    count_up(&mut low);
+    let mut r = 0;
+    while r < count {
+        let k = masks[r];
+        let v = values[r];
+        mark_row(
+            &low,
+            (k % 256) as u8,
+            (v % 256) as u8,
+            low_force(k, v, forces[r]),
+            row,
+        );
+        r += 1;
+    }
+}
+
+// The row is added to the 256 places from base on.
+fn spread_block(row: &[u8; 256], base: usize, plane: &mut [u8; 4096])
+    requires { ⌜ base ≤ 3840 ⌝ }
+    ensures { λ _.
+        ⌜ now (plane .exit) ≡ putsAt base 256 (λ i. bitOr (getD (now (plane .entry)) (base + i) 0) (getD (now (row .entry)) i 0)) (now (plane .entry)) ⌝ }
+{
+    let mut i = 0;
+    while i < 256 {
+        plane[base + i] = plane[base + i] | row[i];
+        i += 1;
+    }
+}
+
+// The row is added to every block of 256 places.
+pub fn spread(row: &[u8; 256], plane: &mut [u8; 4096])
+    ensures { λ _.
+        ⌜ now (plane .exit) ≡ puts 4096 (λ x. bitOr (getD (now (plane .entry)) x 0) (getD (now (row .entry)) (x % 256) 0)) (now (plane .entry)) ⌝ }
+{
+    let mut b = 0;
+    while b < 16 {
+        spread_block(row, b * 256, plane);
+        b += 1;
     }
 }
 

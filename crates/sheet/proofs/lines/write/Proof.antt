@@ -7,7 +7,7 @@ use native.Mathlib.Omega.{arith}
 use borrow.Author.Needs.{needs}
 use lib.Seq.{sets}
 use Rattle.sheet.specs.Planes.{outputArray}
-use Rattle.sheet.proofs.Orders.{order-length}
+use Rattle.sheet.proofs.Good.{order-length}
 use Rattle.sheet.proofs.Least.{short}
 use Rattle.sheet.proofs.Made.{lined}
 use Rattle.sheet.proofs.lines.write.Statement.{statement}
@@ -17,13 +17,13 @@ number-field-requires : tie.Need-number-field-requires
 number-field-requires c κs =
     let a = c .before .before .before .args in
     let g = c .before .before .before .pre in
-    (g .inputs, omega (arith, g .outputs, g .inputs, order-length (a .n) (a .m) (a .order .now) (g .order-whole) (g .inputs) (g .outputs)), short (a .sheet .now) (g .length-good), omega arith, omega arith, refl)
+    (g .inputs, omega (arith, g .outputs, g .inputs, order-length (a .n) (a .m) (a .order .now) (g .order-whole)), short (a .sheet .now) (g .length-good), omega arith, omega arith, refl)
 
 number-field-requires-2 : tie.Need-number-field-requires-2
 number-field-requires-2 c κs =
     let a = c .before .before .before .before .before .args in
     let g = c .before .before .before .before .before .pre in
-    (g .inputs, omega (arith, g .outputs, g .inputs, order-length (a .n) (a .m) (a .order .now) (g .order-whole) (g .inputs) (g .outputs)), short (a .sheet .now) (g .length-good), omega arith, omega arith, refl)
+    (g .inputs, omega (arith, g .outputs, g .inputs, order-length (a .n) (a .m) (a .order .now) (g .order-whole)), short (a .sheet .now) (g .length-good), omega arith, omega arith, refl)
 
 plane-of-requires : tie.Need-plane-of-requires
 plane-of-requires c κs =
@@ -39,7 +39,7 @@ output-list-requires : tie.Need-output-list-requires
 output-list-requires c κs =
     let a = c .before .before .before .before .before .before .before .before .before .before .before .before .before .before .before .args in
     let g = c .before .before .before .before .before .before .before .before .before .before .before .before .before .before .before .pre in
-    omega (arith, g .outputs, g .inputs, order-length (a .n) (a .m) (a .order .now) (g .order-whole) (g .inputs) (g .outputs))
+    omega (arith, g .outputs, g .inputs, order-length (a .n) (a .m) (a .order .now) (g .order-whole))
 
 write-lines-requires : tie.Need-write-lines-requires
 write-lines-requires c κs = search needs
