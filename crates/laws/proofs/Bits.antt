@@ -17,6 +17,10 @@ pub flag-lt : (b : Bool) → flag b < 2
 flag-lt true = omega arith
 flag-lt false = omega arith
 
+pub flag-is : (b : Bool) → eqb (flag b) 1 ≡ b
+flag-is true = refl
+flag-is false = refl
+
 -- a bit is 1 where `has` says so
 pub flag-has : (w i : ℕ) → flag (has w i) ≡ bit w i
 flag-has w i = of (bit w i) (bit-lt w i)

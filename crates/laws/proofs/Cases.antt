@@ -40,6 +40,11 @@ pub cond-both : {A : Type 0} (P : A → Type 0) (b : Bool) {x y : A} → P x →
 cond-both P true p q = p
 cond-both P false p q = q
 
+-- what holds of each side where it is chosen holds of the choice
+pub cond-each : {A : Type 0} (P : A → Type 0) (b : Bool) {x y : A} → (b ≡ true → P x) → (b ≡ false → P y) → P (cond b x y)
+cond-each P true f g = f refl
+cond-each P false f g = g refl
+
 pub cond-same : {A : Type 0} (b : Bool) (x : A) → cond b x x ≡ x
 cond-same true x = refl
 cond-same false x = refl

@@ -15,7 +15,7 @@ use Rattle.laws.proofs.Cases.{by-test, by-less, and-split, and-join, sa
 use Rattle.laws.proofs.Tests.{any-of, any-at, any-out}
 use Rattle.laws.proofs.Find.{least-before}
 use Rattle.laws.proofs.Powers.{sum-bit, sum-small}
-use Rattle.laws.proofs.Bits.{bit-lt, flag-lt, bit-zero, flag-has, has-and, has-or, same-bits}
+use Rattle.laws.proofs.Bits.{bit-lt, flag-lt, flag-is, bit-zero, flag-has, has-and, has-or, same-bits}
 
 -- a test that is both
 pub not-both : {C : Type 0} {b : Bool} → b ≡ true → b ≡ false → C
@@ -66,11 +66,7 @@ module _ (p : ℕ → Bool) (n : ℕ) where
   flags-lt = sum-small (λ i. flag (p i)) n (λ i l. flag-lt (p i))
 
   pub has-flags : (i : ℕ) → i < n → has (sum n (λ k. flag (p k) * 2 ^ k)) i ≡ p i
-  has-flags i h = ap (λ (x : ℕ). eqb x 1) (sum-bit (λ k. flag (p k)) (λ k. k) n (λ k l. flag-lt (p k)) (λ k q l r e. e) i h) ∙ flag-one (p i)
-    where
-      flag-one : (b : Bool) → eqb (flag b) 1 ≡ b
-      flag-one true = refl
-      flag-one false = refl
+  has-flags i h = ap (λ (x : ℕ). eqb x 1) (sum-bit (λ k. flag (p k)) (λ k. k) n (λ k l. flag-lt (p k)) (λ k q l r e. e) i h) ∙ flag-is (p i)
 
 -- the bits of both masks a and b in which v and u differ
 abbrev pub apart : ℕ → ℕ → ℕ → ℕ → ℕ

@@ -1,7 +1,7 @@
 -- Laws of `every` and `any`.
 -- Assumes nothing.
 use mathlib.Core.Path.{_≡_, refl, sym, _∙_, ap, ap₂}
-use mathlib.Core.Bool.{Bool, true, false, not, _&&_, _||_, or-true, false≢true}
+use mathlib.Core.Bool.{Bool, true, false, not, _&&_, _||_, or-true, false≢true, true≢false}
 use Prim.Native.Nat.{ℕ, zero, suc, _+_, _<_, _≤_}
 use native.Mathlib.Nat.{not-suc-le-zero}
 use native.Mathlib.Numerals.{add-one}
@@ -52,6 +52,12 @@ module _ (f : ℕ → Bool) where
   any-at (suc n) e =
       by-test (f n) (λ p. (n, omega arith, p))
       (λ p. by-test (any n f) (λ q. let r = any-at n q in (r .0, omega arith, r .2)) (λ q. absurd (false≢true (sym (ap₂ _||_ q p) ∙ e))))
+
+-- a number at which the test fails
+pub every-out : (f : ℕ → Bool) (n : ℕ) → every n f ≡ false → (i : ℕ) × (i < n) × (f i ≡ false)
+every-out f zero e = absurd (true≢false e)
+every-out f (suc n) e =
+    by-test (every n f) (λ p. (n, omega arith, sym (ap (λ (b : Bool). b && f n) p) ∙ e)) (λ p. let r = every-out f n p in (r .0, omega arith, r .2))
 
 -- tests that agree below n
 pub every-ext : (f g : ℕ → Bool) (n : ℕ) → ((i : ℕ) → i < n → f i ≡ g i) → every n f ≡ every n g

@@ -1,2 +1,7 @@
 -- The reduction layer's laws.
+pub mod Numbers
+pub mod Agree
+pub mod Rounds
+pub mod Cliques
+pub mod Merged
 pub mod Examples
