@@ -23,6 +23,16 @@ module _ (f : ℕ → Bool) where
   count-max zero = omega arith
   count-max (suc n) = let h = count-max n in cond-both (λ (r : ℕ). r ≤ suc n) (f n) (omega arith) (omega arith)
 
+  -- one more number; more numbers
+  pub count-more : (n : ℕ) → (count n f ≤ count (suc n) f) × (count (suc n) f ≤ count n f + 1)
+  count-more n = cond-both (λ (r : ℕ). (count n f ≤ r) × (r ≤ count n f + 1)) (f n) (omega arith, omega arith) (omega arith, omega arith)
+
+  pub count-rise : (m n : ℕ) → m ≤ n → count m f ≤ count n f
+  count-rise m zero h = let e : m ≡ 0 = omega arith in rw e (omega arith)
+  count-rise m (suc n) h =
+      last-or-below m (suc n) (omega arith) (λ e. rw e (omega arith))
+      (λ l. let a = count-rise m n (omega arith) in let b = count-more n .0 in omega arith)
+
   -- a count of 0
   pub count-none : (n : ℕ) → count n f ≤ 0 → (i : ℕ) → i < n → f i ≡ false
   count-none zero e i h = absurd (not-suc-le-zero h)

@@ -4,4 +4,7 @@ pub mod Agree
 pub mod Rounds
 pub mod Cliques
 pub mod Merged
+pub mod Kept
+pub mod Final
+pub mod Ruled
 pub mod Examples

@@ -25,7 +25,7 @@ use Rattle.reduction.proofs.Numbers.{same-entry, entry-same, number-bel
 use Rattle.reduction.proofs.Agree.{compatible-entry, incompatible-at, compatible-sym}
 
 -- opposite values are 0 and 1
-opposite-bits : (x y : ℕ) → opposite x y ≡ true → (x < 2) × (y < 2)
+pub opposite-bits : (x y : ℕ) → opposite x y ≡ true → (x < 2) × (y < 2)
 opposite-bits x y e =
     by-test (eqb x 0 && eqb y 1)
     (λ p. let s = and-split (eqb x 0) (eqb y 1) p in (omega (arith, eqb-true x 0 (s .0)), omega (arith, eqb-true y 1 (s .1))))
@@ -34,7 +34,7 @@ opposite-bits x y e =
     (omega (arith, eqb-true x 1 (s .0)), omega (arith, eqb-true y 0 (s .1))))
 
 -- a place of a prefix's column is one of its line
-place-below : (n a p x : ℕ) → a ≤ n → p < 2 ^ (n - a) → x < 2 ^ a → p * 2 ^ a + x < 2 ^ n
+pub place-below : (n a p x : ℕ) → a ≤ n → p < 2 ^ (n - a) → x < 2 ^ a → p * 2 ^ a + x < 2 ^ n
 place-below n a p x ha hp hx =
     let e : n - a + a ≡ n = omega arith in
     rw (ap (λ (i : ℕ). 2 ^ i) (sym e) ∙ pow-add 2 (n - a) a) (digits-lt hp hx)

@@ -10,4 +10,5 @@ pub mod Loops
 pub mod Blocks
 pub mod Made
 pub mod Least
+pub mod Below
 pub mod Examples

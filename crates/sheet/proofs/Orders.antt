@@ -75,7 +75,7 @@ count-cover f g n h e i l p =
     absurd (omega (arith, count-not g n)))
 
 -- a count of 1, and the place of a number among those counted
-count-once : (f : ℕ → Bool) (n k q : ℕ) → count n f ≤ 1 → k < n → q < n → f k ≡ true → f q ≡ true → k ≡ q
+pub count-once : (f : ℕ → Bool) (n k q : ℕ) → count n f ≤ 1 → k < n → q < n → f k ≡ true → f q ≡ true → k ≡ q
 count-once f zero k q e h l a b = absurd (not-suc-le-zero h)
 count-once f (suc n) k q e h l a b =
     by-test (f n)
@@ -100,7 +100,7 @@ count-before f (suc n) k h a =
     omega (arith, count-add f n))
     (λ l. omega (arith, count-add f n, count-before f n k l a))
 
-count-place : (f : ℕ → Bool) (n j : ℕ) → j < count n f → (k : ℕ) × (k < n) × (f k ≡ true) × (count k f ≡ j)
+pub count-place : (f : ℕ → Bool) (n j : ℕ) → j < count n f → (k : ℕ) × (k < n) × (f k ≡ true) × (count k f ≡ j)
 count-place f zero j h = absurd (not-suc-le-zero h)
 count-place f (suc n) j h =
     let before : j < count n f → (k : ℕ) × (k < suc n) × (f k ≡ true) × (count k f ≡ j) =
@@ -120,7 +120,7 @@ module _ (c : ℕ → Bool) (g : ℕ → ℕ) (l : ℕ → List ℕ) (start : l 
       let before = picked-length n in
       by-test (c n) (λ p. rw (more n, p, length-append) (omega arith)) (λ p. rw (more n, p) before)
 
-  picked-at : (n k : ℕ) → k < n → c k ≡ true → getD (l n) (count k c) 0 ≡ g k
+  pub picked-at : (n k : ℕ) → k < n → c k ≡ true → getD (l n) (count k c) 0 ≡ g k
   picked-at zero k h p = absurd (not-suc-le-zero h)
   picked-at (suc n) k h p =
       last-or-below k n h
@@ -133,7 +133,7 @@ module _ (c : ℕ → Bool) (g : ℕ → ℕ) (l : ℕ → List ℕ) (start : l 
       (λ q. rw (more n, q) (picked-at n k m p)))
 
   -- each element is g of some number that passes
-  picked-from : (n j : ℕ) → j < count n c → (k : ℕ) × (k < n) × (c k ≡ true) × (count k c ≡ j) × (getD (l n) j 0 ≡ g k)
+  pub picked-from : (n j : ℕ) → j < count n c → (k : ℕ) × (k < n) × (c k ≡ true) × (count k c ≡ j) × (getD (l n) j 0 ≡ g k)
   picked-from n j h =
       let r = count-place c n j h in
       (r .0, r .1, r .2, r .3, ap (λ (i : ℕ). getD (l n) i 0) (sym (r .3)) ∙ picked-at n (r .0) (r .1) (r .2))
@@ -168,21 +168,21 @@ module _ (q : ℕ → ℕ) (a : ℕ) where
       (λ i l e. let r = among-at k i e in ne-eqb (q i) (a + k) (λ s. absurd (omega arith)))
       ∙ omega (arith, count-among t k (λ v l. h v (omega arith)), h k (omega arith))
 
-cond-not : {A : Type 0} (b : Bool) (x y : A) → cond b y x ≡ cond (not b) x y
+pub cond-not : {A : Type 0} (b : Bool) (x y : A) → cond b y x ≡ cond (not b) x y
 cond-not true x y = refl
 cond-not false x y = refl
 
 -- of an order of t variables: the one at height k + 1, whether it is an input or an output, and which output
-abbrev up : ℕ → List ℕ → ℕ → ℕ
+abbrev pub up : ℕ → List ℕ → ℕ → ℕ
 up t order k = getD order (t - suc k) 0
 
-abbrev isIn : ℕ → List ℕ → ℕ → Bool
+abbrev pub isIn : ℕ → List ℕ → ℕ → Bool
 isIn t order k = isInput (up t order k)
 
-abbrev isOut : ℕ → List ℕ → ℕ → Bool
+abbrev pub isOut : ℕ → List ℕ → ℕ → Bool
 isOut t order k = not (isIn t order k)
 
-abbrev lowered : ℕ → List ℕ → ℕ → ℕ
+abbrev pub lowered : ℕ → List ℕ → ℕ → ℕ
 lowered t order k = up t order k - 128
 
 module _ (n m : ℕ) (order : List ℕ) (once : notEachOnce n m order ≡ false) (few : n ≤ 12) (out : m ≤ 8) where
@@ -228,28 +228,28 @@ module _ (n m : ℕ) (order : List ℕ) (once : notEachOnce n m order ≡ false)
       (λ e. let r = among-at (up (n + m) order) 128 m i e in ap not (le-ltb (up (n + m) order i) 128 (omega arith)))
 
   -- the two lists as picked ones
-  inputs-start : inputsTo (n + m) order 0 ≡ []
+  pub inputs-start : inputsTo (n + m) order 0 ≡ []
   unfolding inputsTo
   inputs-start = refl
 
-  inputs-more : (h : ℕ) → inputsTo (n + m) order (suc h)
+  pub inputs-more : (h : ℕ) → inputsTo (n + m) order (suc h)
       ≡ cond (isIn (n + m) order h) (inputsTo (n + m) order h ++ (up (n + m) order h ∷ [])) (inputsTo (n + m) order h)
   unfolding inputsTo
   inputs-more h = refl
 
-  outputs-start : outputsTo (n + m) order 0 ≡ []
+  pub outputs-start : outputsTo (n + m) order 0 ≡ []
   unfolding outputsTo
   outputs-start = refl
 
-  outputs-more : (h : ℕ) → outputsTo (n + m) order (suc h)
+  pub outputs-more : (h : ℕ) → outputsTo (n + m) order (suc h)
       ≡ cond (isOut (n + m) order h) (outputsTo (n + m) order h ++ (lowered (n + m) order h ∷ [])) (outputsTo (n + m) order h)
   unfolding outputsTo
   outputs-more h = cond-not (isIn (n + m) order h) _ _
 
-  picked-inputs : count (n + m) (isIn (n + m) order) ≡ n
+  pub picked-inputs : count (n + m) (isIn (n + m) order) ≡ n
   picked-inputs = count-ext (isIn (n + m) order) (among (up (n + m) order) 0 n) (n + m) input-is ∙ input-count
 
-  picked-outputs : count (n + m) (isOut (n + m) order) ≡ m
+  pub picked-outputs : count (n + m) (isOut (n + m) order) ≡ m
   picked-outputs = count-ext (isOut (n + m) order) (among (up (n + m) order) 128 m) (n + m) output-is ∙ output-count
 
   pub inputs-length : length (inputsTo (n + m) order (n + m)) ≡ n

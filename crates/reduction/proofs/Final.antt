@@ -1,0 +1,156 @@
+-- All merges: how many inputs and outputs stand at heights h to 1, what the merges keep, and that the columns of a height, once merged, are
+-- final, so that no width at a height of a merge is over 512.
+-- Assumes nothing.
+use mathlib.Core.Path.{_≡_, refl, sym, _∙_, ap}
+use mathlib.Core.Bool.{true, false, not}
+use mathlib.Core.List.{List}
+use Prim.Native.Nat.{ℕ, zero, suc, _+_, _-_, _*_, _^_, _<_, _≤_}
+use native.Mathlib.Nat.{not-suc-le-zero}
+use native.Mathlib.Omega.{arith}
+use borrow.Author.Tests.{ltb-false}
+use lib.ListN.{length, getD, length-append}
+use Rattle.laws.proofs.Cases.{by-test, by-less, last-or-below}
+use Rattle.laws.proofs.Tests.{any-out}
+use Rattle.laws.proofs.Counts.{count-more, count-rise}
+use Rattle.laws.proofs.Masks.{not-both}
+use Rattle.sheet.specs.Job.{Job, t, isInput, varAt, ins, outs, inputsTo, outputsTo}
+use Rattle.sheet.specs.Refusals.{notEachOnce}
+use Rattle.sheet.proofs.Orders.{inputs-length, outputs-length}
+use Rattle.reduction.specs.Columns.{same, firsts, firstsAt, width}
+use Rattle.reduction.specs.Merge.{mergeAt, merged, reduced, tooWide, refuse7}
+use Rattle.reduction.proofs.Numbers.{firsts-rise, first-smallest, width-positive, width-few}
+use Rattle.reduction.proofs.Merged.{merge-below}
+use Rattle.reduction.proofs.Kept.{Settled, keeps-all, settled-merge, settled-kept, widths-kept, width-cliques}
+
+-- columns that are all the same are one column
+one-column : (n a b : ℕ) (f : List ℕ) → ((p q : ℕ) → same n a b f p q ≡ true) → length (firsts n a b f) ≡ 1
+one-column n a b f h =
+    by-less 1 (length (firsts n a b f))
+    (λ l.
+    let ps = firsts n a b f in
+    not-both (h (getD ps 0 0) (getD ps 1 0)) (first-smallest n a b f 1 (getD ps 0 0) l (firsts-rise n a b f 0 1 (omega arith) l)))
+    (λ l. omega (arith, width-positive n a b f))
+
+module _ (j : Job) where
+  pub ins-rise : (h g : ℕ) → h ≤ g → ins j h ≤ ins j g
+  unfolding ins
+  ins-rise = count-rise (λ k. isInput (varAt j (suc k)))
+
+  pub outs-rise : (h g : ℕ) → h ≤ g → outs j h ≤ outs j g
+  unfolding outs
+  outs-rise = count-rise (λ k. not (isInput (varAt j (suc k))))
+
+  pub ins-step : (h : ℕ) → (ins j h ≤ ins j (suc h)) × (ins j (suc h) ≤ ins j h + 1)
+  unfolding ins
+  ins-step = count-more (λ k. isInput (varAt j (suc k)))
+
+  -- the lists are as long as the counts
+  ins-length : (h : ℕ) → length (inputsTo (t j) (j .order) h) ≡ ins j h
+  unfolding ins inputsTo
+  ins-length zero = refl
+  ins-length (suc h) =
+      let e = ins-length h in
+      by-test (isInput (varAt j (suc h))) (λ p. rw (p, length-append) (omega arith)) (λ p. rw p e)
+
+  outs-length : (h : ℕ) → length (outputsTo (t j) (j .order) h) ≡ outs j h
+  unfolding outs outputsTo
+  outs-length zero = refl
+  outs-length (suc h) =
+      let e = outs-length h in
+      by-test (isInput (varAt j (suc h))) (λ p. rw p e) (λ p. rw (p, length-append) (omega arith))
+
+  -- there is one empty column
+  pub width-bottom : (f : List ℕ) → width j f 0 ≡ 1
+  unfolding width firstsAt ins outs same
+  width-bottom f = one-column (j .n) 0 0 f (λ p q. refl)
+
+  pub merged-below : (f : List ℕ) → ((i : ℕ) → getD f i 0 < 3) → (k i : ℕ) → getD (merged j f k) i 0 < 3
+  unfolding merged mergeAt
+  merged-below f h zero i = h i
+  merged-below f h (suc k) i =
+      merge-below (j .n) (ins j (t j - suc k)) (outs j (t j - suc k)) (merged j f k) (j .m) i (merged-below f h k)
+
+  -- an order in which each variable stands once
+  module _ (once : notEachOnce (j .n) (j .m) (j .order) ≡ false) (few : j .n ≤ 12) (out : j .m ≤ 8) where
+    pub ins-all : ins j (t j) ≡ j .n
+    ins-all = sym (ins-length (t j)) ∙ inputs-length (j .n) (j .m) (j .order) once few out
+
+    pub outs-all : outs j (t j) ≡ j .m
+    outs-all = sym (outs-length (t j)) ∙ outputs-length (j .n) (j .m) (j .order) once few out
+
+    ins-most : (k : ℕ) → ins j (t j - k) ≤ j .n
+    ins-most k = omega (arith, ins-rise (t j - k) (t j) (omega arith), ins-all)
+
+    outs-most : (k : ℕ) → outs j (t j - k) ≤ j .m
+    outs-most k = omega (arith, outs-rise (t j - k) (t j) (omega arith), outs-all)
+
+    -- there is one prefix of no inputs
+    pub width-top : (f : List ℕ) → width j f (t j) ≡ 1
+    unfolding width firstsAt
+    width-top f =
+        let a = ins j (t j) in
+        let e : 2 ^ (j .n - a) ≡ 1 = let z : j .n - a ≡ 0 = omega (arith, ins-all) in ap (λ (i : ℕ). 2 ^ i) z in
+        omega (arith, e, width-few (j .n) a (outs j (t j)) f, width-positive (j .n) a (outs j (t j)) f)
+
+    module _ (f : List ℕ) where
+      pub merged-keeps : (k q x v : ℕ) → q < j .m → x < 2 ^ j .n → v < 2 → getD f (q * 2 ^ j .n + x) 0 ≡ v
+          → getD (merged j f k) (q * 2 ^ j .n + x) 0 ≡ v
+      unfolding merged mergeAt
+      merged-keeps zero q x v hq hx hv e = e
+      merged-keeps (suc k) q x v hq hx hv e =
+          keeps-all (j .n) (j .m) (ins j (t j - suc k)) (outs j (t j - suc k)) (merged j f k) (ins-most (suc k)) (outs-most (suc k))
+          q x v hq hx hv (merged-keeps k q x v hq hx hv e)
+
+      pub reduced-keeps : (q x v : ℕ) → q < j .m → x < 2 ^ j .n → v < 2 → getD f (q * 2 ^ j .n + x) 0 ≡ v
+          → getD (reduced j f) (q * 2 ^ j .n + x) 0 ≡ v
+      unfolding reduced
+      reduced-keeps = merged-keeps (t j - 1)
+
+      -- the columns of a height after its own merge
+      pub settled-after : (k l : ℕ) → k < l → Settled (j .n) (ins j (t j - suc k)) (outs j (t j - suc k)) (merged j f l)
+      unfolding merged mergeAt
+      settled-after k zero h = absurd (not-suc-le-zero h)
+      settled-after k (suc l) h =
+          last-or-below k l h
+          (λ e.
+          rw e
+          (settled-merge (j .n) (j .m) (ins j (t j - suc l)) (outs j (t j - suc l)) (merged j f l) (ins-most (suc l)) (outs-most (suc l))))
+          (λ b.
+          settled-kept (j .n) (j .m) (ins j (t j - suc k)) (outs j (t j - suc k)) (ins j (t j - suc l)) (outs j (t j - suc l)) (merged j f l)
+          (ins-rise (t j - suc l) (t j - suc k) (omega arith)) (ins-most (suc k))
+          (outs-rise (t j - suc l) (t j - suc k) (omega arith)) (outs-most (suc k)) (settled-after k l b))
+
+      firsts-kept : (k l : ℕ) → k < l → firstsAt j (merged j f (suc l)) (t j - suc k) ≡ firstsAt j (merged j f l) (t j - suc k)
+      unfolding firstsAt merged mergeAt
+      firsts-kept k l h =
+          widths-kept (j .n) (j .m) (ins j (t j - suc k)) (outs j (t j - suc k)) (ins j (t j - suc l)) (outs j (t j - suc l)) (merged j f l)
+          (ins-rise (t j - suc l) (t j - suc k) (omega arith)) (ins-most (suc k))
+          (outs-rise (t j - suc l) (t j - suc k) (omega arith)) (outs-most (suc k)) (settled-after k l h)
+
+      firsts-after : (k l : ℕ) → k < l → firstsAt j (merged j f l) (t j - suc k) ≡ firstsAt j (merged j f (suc k)) (t j - suc k)
+      firsts-after k zero h = absurd (not-suc-le-zero h)
+      firsts-after k (suc l) h = last-or-below k l h (λ e. rw e refl) (λ b. firsts-kept k l b ∙ firsts-after k l b)
+
+      pub firsts-final : (k : ℕ) → k < t j - 1 → firstsAt j (reduced j f) (t j - suc k) ≡ firstsAt j (merged j f (suc k)) (t j - suc k)
+      unfolding reduced
+      firsts-final k h = firsts-after k (t j - 1) h
+
+      pub width-final : (k : ℕ) → k < t j - 1 → width j (reduced j f) (t j - suc k) ≡ width j (merged j f (suc k)) (t j - suc k)
+      unfolding width
+      width-final k h = ap (λ (ps : List ℕ). length ps) (firsts-final k h)
+
+      -- a merge leaves its own height no wider
+      width-merge : (k : ℕ) → width j (merged j f (suc k)) (t j - suc k) ≤ width j (merged j f k) (t j - suc k)
+      unfolding width firstsAt merged mergeAt
+      width-merge k =
+          width-cliques (j .n) (j .m) (ins j (t j - suc k)) (outs j (t j - suc k)) (merged j f k) (ins-most (suc k)) (outs-most (suc k))
+
+      pub width-fits : refuse7 j f ≡ false → (h : ℕ) → 1 ≤ h → h < t j → width j (reduced j f) h ≤ 512
+      unfolding refuse7 tooWide
+      width-fits e h a b =
+          let k = t j - suc h in
+          let l : k < t j - 1 = omega arith in
+          let before = ltb-false 512 (width j (merged j f k) (t j - suc k)) (any-out (tooWide j f) (t j - 1) e k l) in
+          let fits : width j (reduced j f) (t j - suc k) ≤ 512 = omega (arith, width-merge k, width-final k l) in
+          let s : h ≡ t j - suc k = omega arith in
+          rw s fits
