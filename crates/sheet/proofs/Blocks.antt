@@ -4,7 +4,7 @@
 use mathlib.Core.Path.{_≡_, refl, sym, _∙_, ap, ap₂}
 use mathlib.Core.Bool.{Bool, true, false, cond, _&&_}
 use mathlib.Core.List.{List}
-use Prim.Native.Nat.{ℕ, zero, suc, _+_, _*_, _/_, _%_, _^_, _<_, _≤_}
+use Prim.Native.Nat.{ℕ, suc, _+_, _*_, _/_, _%_, _^_, _<_}
 use native.Mathlib.Nat.{div-add-mod', div-eq-of-lt, mod-lt}
 use native.Mathlib.Numerals.{add-one}
 use native.Mathlib.Omega.{arith}
@@ -160,8 +160,3 @@ numbers-start old is ws n = puts-same (λ r. numberTo (getD old r 0) is 0 (getD 
 
 pub counts-up : (l : List ℕ) → length l ≡ 256 → CountsUp (puts 256 (λ i. i) l)
 counts-up l e i h = getD-puts (λ i. i) 256 l 0 i h (omega arith)
-
-pub small-product : (a b : ℕ) → a ≤ 1 → b ≤ 2 → a * b ≤ 2
-small-product zero b p q = omega arith
-small-product (suc zero) b p q = omega arith
-small-product (suc (suc a)) b p q = absurd (omega arith)

@@ -61,7 +61,10 @@ fn value_of(z: u8, y: u8, o: usize) -> u8
     requires { ⌜ o < 8 ⌝ }
     ensures { λ r. ⌜ r ≡ lineValue z y o ⌝ }
 {
-    (1 - (z >> o) % 2) * (2 - (y >> o) % 2)
+    if (z >> o) % 2 == 1 {
+        return 0;
+    }
+    2 - (y >> o) % 2
 }
 
 // One line: the values of output o at the first count places, written from base on.
