@@ -16,10 +16,12 @@ use Rattle.laws.proofs.Masks.{not-both}
 use Rattle.sheet.specs.Job.{Job, t, isInput, varAt, ins, outs, inputsTo, outputsTo}
 use Rattle.sheet.specs.Refusals.{notEachOnce}
 use Rattle.sheet.proofs.Orders.{inputs-length, outputs-length}
+use Rattle.sheet.proofs.Below.{insBelow, insBelow-ins}
 use Rattle.reduction.specs.Columns.{same, firsts, firstsAt, width}
 use Rattle.reduction.specs.Merge.{mergeAt, merged, reduced, tooWide, refuse7}
 use Rattle.reduction.proofs.Numbers.{firsts-rise, first-smallest, width-positive, width-few}
 use Rattle.reduction.proofs.Merged.{merge-below}
+use Rattle.reduction.proofs.Ruled.{Ruled, merge-ruled}
 use Rattle.reduction.proofs.Kept.{Settled, keeps-all, settled-merge, settled-kept, widths-kept, width-cliques}
 
 -- columns that are all the same are one column
@@ -105,6 +107,15 @@ module _ (j : Job) where
           → getD (reduced j f) (q * 2 ^ j .n + x) 0 ≡ v
       unfolding reduced
       reduced-keeps = merged-keeps (t j - 1)
+
+      -- no line depends on the inputs below its output
+      pub merged-ruled : Ruled (j .n) (j .m) (insBelow (t j) (j .order)) f → (k : ℕ)
+          → Ruled (j .n) (j .m) (insBelow (t j) (j .order)) (merged j f k)
+      unfolding merged mergeAt
+      merged-ruled r zero = r
+      merged-ruled r (suc k) =
+          merge-ruled (j .n) (j .m) (ins j (t j - suc k)) (outs j (t j - suc k)) (merged j f k) (insBelow (t j) (j .order))
+          (ins-most (suc k)) (outs-most (suc k)) (λ q h. insBelow-ins j (t j - suc k) q (omega arith) h) (merged-ruled r k)
 
       -- the columns of a height after its own merge
       pub settled-after : (k l : ℕ) → k < l → Settled (j .n) (ins j (t j - suc k)) (outs j (t j - suc k)) (merged j f l)

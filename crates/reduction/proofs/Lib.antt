@@ -5,6 +5,7 @@ pub mod Rounds
 pub mod Cliques
 pub mod Merged
 pub mod Kept
-pub mod Final
 pub mod Ruled
+pub mod Final
+pub mod Refined
 pub mod Examples
