@@ -8,4 +8,5 @@ pub mod Kept
 pub mod Ruled
 pub mod Final
 pub mod Refined
+pub mod Nodes
 pub mod Examples
