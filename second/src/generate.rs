@@ -50,6 +50,13 @@ pub enum Family {
 }
 
 impl Family {
+    /// Small jobs that the sheet layer accepts.
+    pub const SMALL: [Family; 3] = [
+        Family::SmallFewFree,
+        Family::SmallManyFree,
+        Family::SmallOrders,
+    ];
+
     pub const ALL: [Family; 13] = [
         Family::SmallFewFree,
         Family::SmallManyFree,

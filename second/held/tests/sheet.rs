@@ -49,11 +49,7 @@ fn compare(family: Family, jobs: u64) -> BTreeMap<u8, u64> {
 
 #[test]
 fn small() {
-    for family in [
-        Family::SmallFewFree,
-        Family::SmallManyFree,
-        Family::SmallOrders,
-    ] {
+    for family in Family::SMALL {
         assert_eq!(compare(family, 4_500).len(), 1);
     }
 }
