@@ -2,12 +2,12 @@
 -- Assumes nothing.
 use mathlib.Core.Path.{_≡_, refl, sym, _∙_, ap, ap₂}
 use mathlib.Core.Bool.{Bool, true, false, _&&_, _||_}
-use Prim.Native.Nat.{ℕ, zero, suc, _+_, _*_, _/_, _%_, _^_, _<_, _≤_}
-use native.Mathlib.Nat.{mod-lt, div-add-mod', div-one, zero-div, pow-suc, div-eq-of-lt, div-lt-iff-lt-mul}
+use Prim.Native.Nat.{ℕ, zero, suc, _+_, _-_, _*_, _/_, _%_, _^_, _<_, _≤_}
+use native.Mathlib.Nat.{mod-lt, add-zero, div-add-mod', div-one, zero-div, pow-suc, div-eq-of-lt, div-lt-iff-lt-mul}
 use native.Mathlib.Omega.{arith}
 use lib.Dec.{eqb}
 use lib.Bits.{block-half, block-odd, bitAnd, bitOr, and-shr, or-shr, and-mod, or-mod}
-use lib.Pow.{shr-shr, pow-mono, high}
+use lib.Pow.{pow-pos, shr-shr, pow-mono, high}
 use Rattle.laws.specs.Bits.{bit, has, flag}
 
 pub bit-lt : (w i : ℕ) → bit w i < 2
@@ -98,3 +98,12 @@ bit-low hi (suc k) lo (suc i) h l =
 
 pub bit-high : (hi k lo i : ℕ) → lo < 2 ^ k → bit (hi * 2 ^ k + lo) (k + i) ≡ bit hi i
 bit-high hi k lo i h = ap (λ (x : ℕ). x % 2) (sym (shr-shr (hi * 2 ^ k + lo) k i) ∙ ap (λ (x : ℕ). x / 2 ^ i) (high hi k h))
+
+-- clearing the c lowest bits keeps those from c on
+pub cleared-bit : (x c q : ℕ) → c ≤ q → bit (x / 2 ^ c * 2 ^ c) q ≡ bit x q
+cleared-bit x c q h =
+    let p = x / 2 ^ c in
+    let e : c + (q - c) ≡ q = omega arith in
+    ap (bit (p * 2 ^ c)) (sym e) ∙ ap (λ (z : ℕ). bit z (c + (q - c))) (sym (add-zero (p * 2 ^ c)))
+    ∙ bit-high p c 0 (q - c) (pow-pos c) ∙ sym (bit-high p c (x % 2 ^ c) (q - c) (mod-lt x (pow-pos c)))
+    ∙ ap (λ (z : ℕ). bit z (c + (q - c))) (div-add-mod' x (2 ^ c)) ∙ ap (bit x) e

@@ -2,7 +2,7 @@
 -- Assumes nothing.
 use mathlib.Core.Path.{_≡_, refl}
 use mathlib.Core.Logic.{_⊎_, inl, inr}
-use mathlib.Core.Bool.{Bool, true, false, cond, _&&_, _||_, false≢true, true≢false}
+use mathlib.Core.Bool.{Bool, true, false, cond, _&&_, _||_, false≢true, true≢false, not}
 use Prim.Native.Nat.{ℕ, suc, _<_, _≤_}
 use native.Mathlib.Nat.{eq-or-lt-of-le, le-of-suc-le-suc}
 use lib.Dec.{ltb, eqb}
@@ -80,3 +80,7 @@ same-test true true f g = refl
 same-test true false f g = absurd (false≢true (f refl))
 same-test false true f g = absurd (false≢true (g refl))
 same-test false false f g = refl
+
+pub cond-not : {A : Type 0} (b : Bool) (x y : A) → cond b y x ≡ cond (not b) x y
+cond-not true x y = refl
+cond-not false x y = refl

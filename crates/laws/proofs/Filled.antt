@@ -3,10 +3,10 @@
 use mathlib.Core.Path.{_≡_, refl, sym, _∙_, ap, ap₂}
 use mathlib.Core.List.{List, [], _∷_, _++_, append-nil, append-assoc}
 use Prim.Native.Nat.{ℕ, zero, suc, _+_, _-_, _<_, _≤_}
-use native.Mathlib.Nat.{add-zero}
+use native.Mathlib.Nat.{add-zero, zero-add}
 use native.Mathlib.Numerals.{add-one}
 use native.Mathlib.Omega.{arith}
-use lib.ListN.{length, getD, set, take, drop, length-append, length-take, length-drop, List·getD-append, take-append-drop}
+use lib.ListN.{length, getD, set, take, drop, replicate, length-replicate, length-append, length-take, length-drop, List·getD-append, take-append-drop}
 use lib.Seq.{drop-cons, set-at, append-snoc, getD-append-add, getD-drop, getD-take, set-getD, sets, sets-eq, take-at, drop-at, drop-drop}
 use Rattle.laws.specs.Lists.{tab, filled, written}
 use Rattle.laws.proofs.Lists.{length-tab, getD-tab, tab-next}
@@ -131,3 +131,10 @@ pub getD-written-next : {A : Type 0} (g : ℕ → A) (l : List A) (b i : ℕ) (d
 getD-written-next g l b i d h =
     let e : b + length (tab i g) + 0 ≡ b + i = omega (arith, length-tab g i) in
     ap (λ (k : ℕ). getD (written l b (tab i g)) k d) (sym e) ∙ getD-after l b (tab i g) (omega (arith, length-tab g i)) d 0 ∙ ap (λ (k : ℕ). getD l k d) e
+
+-- a list stored into zeros
+pub laid : (size : ℕ) (l : List ℕ) (i : ℕ) → length l ≤ size → i < length l → getD (sets (replicate size 0) 0 l) i 0 ≡ getD l i 0
+laid size l i h b =
+    let fits : 0 + length l ≤ length (replicate {A = ℕ} size 0) = omega (arith, length-replicate {A = ℕ} size 0) in
+    ap₂ (λ (a : List ℕ) (k : ℕ). getD a k 0) (sym (written-sets (replicate size 0) 0 l fits)) (sym (zero-add i))
+    ∙ getD-written (replicate size 0) 0 l fits 0 i b

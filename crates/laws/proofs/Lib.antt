@@ -2,6 +2,7 @@
 pub mod Cases
 pub mod Tests
 pub mod Counts
+pub mod Picked
 pub mod Find
 pub mod Lists
 pub mod Filled

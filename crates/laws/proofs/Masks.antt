@@ -2,7 +2,7 @@
 -- and of a test that is counted.
 -- Assumes nothing.
 use mathlib.Core.Path.{_≡_, refl, sym, _∙_, ap, ap₂}
-use mathlib.Core.Bool.{Bool, true, false, not, _&&_, _||_, and-true, true≢false}
+use mathlib.Core.Bool.{Bool, true, false, not, cond, _&&_, _||_, and-true, true≢false}
 use Prim.Native.Nat.{ℕ, zero, suc, _*_, _/_, _%_, _^_, _<_}
 use native.Mathlib.Omega.{arith}
 use lib.Dec.{eqb}
@@ -143,3 +143,7 @@ count-empty p (suc n) h = rw (h n (omega arith)) (count-empty p n (λ i l. h i (
 
 pub least-counted : (p : ℕ → Bool) (n : ℕ) → 0 < count n p → least n p < n
 least-counted p n h = by-less (least n p) n (λ l. l) (λ l. let e = count-empty p n (λ i k. least-before p n i (omega arith)) in absurd (omega arith))
+
+pub has-cond : (b : Bool) (f o : ℕ) → has (cond b f 0) o ≡ (b && has f o)
+has-cond true f o = refl
+has-cond false f o = has-zero o

@@ -1,4 +1,4 @@
--- Sums of distinct powers of two, read bit by bit.
+-- Sums of distinct powers of two, read bit by bit; a number put above another.
 -- Assumes nothing.
 use mathlib.Core.Path.{_≡_, sym, _∙_, ap}
 use mathlib.Core.Bool.{cond}
@@ -6,7 +6,8 @@ use Prim.Native.Nat.{ℕ, zero, suc, _+_, _-_, _*_, _/_, _%_, _^_, _<_, _≤_}
 use native.Mathlib.Nat.{mod-lt, add-mul, div-one, pow-suc, not-suc-le-zero, mul-le-mul-right, one-mul}
 use native.Mathlib.Omega.{arith}
 use lib.Dec.{eqb}
-use lib.Pow.{pow-pos, shr-shr, split}
+use lib.Pow.{pow-pos, pow-add, shr-shr, split}
+use lib.Arith.{digits-lt}
 use borrow.Author.Tests.{eq-eqb, ne-eqb}
 use Rattle.laws.specs.Tests.{sum}
 use Rattle.laws.specs.Bits.{bit}
@@ -94,3 +95,9 @@ small-bits n w h =
     let rest : w % 2 ^ n < 2 ^ n = mod-lt w (pow-pos n) in
     let whole : 0 * 2 ^ n + w % 2 ^ n ≡ w = rw top at (split w n) in
     omega arith
+
+-- a number of n - a bits put above one of a bits
+pub place-below : (n a p x : ℕ) → a ≤ n → p < 2 ^ (n - a) → x < 2 ^ a → p * 2 ^ a + x < 2 ^ n
+place-below n a p x ha hp hx =
+    let e : n - a + a ≡ n = omega arith in
+    rw (ap (λ (i : ℕ). 2 ^ i) (sym e) ∙ pow-add 2 (n - a) a) (digits-lt hp hx)

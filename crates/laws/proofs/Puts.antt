@@ -6,7 +6,7 @@ use Prim.Native.Nat.{ℕ, zero, suc, _+_, _*_, _<_, _≤_}
 use native.Mathlib.Nat.{not-suc-le-zero, add-zero}
 use native.Mathlib.Numerals.{add-one}
 use native.Mathlib.Omega.{arith}
-use lib.ListN.{length, getD, set, length-set}
+use lib.ListN.{length, getD, set, length-set, replicate, length-replicate, getD-replicate}
 use lib.Seq.{getD-set-same, getD-set-other, set-getD, sets, ext-getD}
 use Rattle.laws.specs.Lists.{tab, rect, filled, puts, putsAt}
 use Rattle.laws.proofs.Cases.{last-or-below, by-less}
@@ -126,3 +126,18 @@ putsAt-rect F c m l s e =
     let at : 0 + length (rect m c F) ≡ m * c = omega (arith, length-rect c F m) in
     putsAt-sets (F m) (m * c) c s ∙ ap₂ (λ (k : ℕ) (x : List _). sets x k (tab c (F m))) (sym at) e ∙ sym (sets-append (rect m c F) (tab c (F m)) l 0)
     ∙ ap (λ (k : ℕ). sets l 0 (rect k c F)) (sym (add-one m))
+
+-- arrays of any size that hold zeros before anything is stored
+pub stored : (size n : ℕ) (f : ℕ → ℕ) (i : ℕ) → n ≤ size → i < n → getD (puts n f (replicate size 0)) i 0 ≡ f i
+stored size n f i h l = getD-puts f n (replicate size 0) 0 i l (omega (arith, length-replicate {A = ℕ} size 0))
+
+pub stored-over : (size : ℕ) (g : ℕ → ℕ → ℕ) (i : ℕ) → i < size
+    → getD (puts size (λ k. g (getD (replicate size 0) k 0) k) (replicate size 0)) i 0 ≡ g 0 i
+stored-over size g i h =
+    stored size size (λ k. g (getD (replicate size 0) k 0) k) i (omega arith) h ∙ ap (λ (a : ℕ). g a i) (getD-replicate size i 0 0 h)
+
+-- one element more after what is stored
+pub sets-snoc : (l a : List ℕ) (n v : ℕ) → n ≡ length a → set (sets l 0 a) n v ≡ sets l 0 (a ++ (v ∷ []))
+sets-snoc l a n v e =
+    let z : 0 + length a ≡ n = omega arith in
+    ap (λ (k : ℕ). set (sets l 0 a) k v) (sym z) ∙ sym (sets-append a (v ∷ []) l 0)

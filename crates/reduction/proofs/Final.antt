@@ -1,21 +1,20 @@
--- All merges: how many inputs and outputs stand at heights h to 1, what the merges keep, and that the columns of a height, once merged, are
+-- All merges: what they keep, and that the columns of a height, once merged, are
 -- final, so that no width at a height of a merge is over 512.
 -- Assumes nothing.
-use mathlib.Core.Path.{_≡_, refl, sym, _∙_, ap}
-use mathlib.Core.Bool.{true, false, not}
+use mathlib.Core.Path.{_≡_, refl, _∙_, ap}
+use mathlib.Core.Bool.{true, false}
 use mathlib.Core.List.{List}
 use Prim.Native.Nat.{ℕ, zero, suc, _+_, _-_, _*_, _^_, _<_, _≤_}
 use native.Mathlib.Nat.{not-suc-le-zero}
 use native.Mathlib.Omega.{arith}
 use borrow.Author.Tests.{ltb-false}
-use lib.ListN.{length, getD, length-append}
-use Rattle.laws.proofs.Cases.{by-test, by-less, last-or-below}
+use lib.ListN.{length, getD}
+use Rattle.laws.proofs.Cases.{by-less, last-or-below}
 use Rattle.laws.proofs.Tests.{any-out}
-use Rattle.laws.proofs.Counts.{count-more, count-rise}
 use Rattle.laws.proofs.Masks.{not-both}
-use Rattle.sheet.specs.Job.{Job, t, isInput, varAt, ins, outs, inputsTo, outputsTo}
+use Rattle.sheet.specs.Job.{Job, t, ins, outs}
 use Rattle.sheet.specs.Refusals.{notEachOnce}
-use Rattle.sheet.proofs.Orders.{inputs-length, outputs-length}
+use Rattle.sheet.proofs.Orders.{ins-rise, outs-rise, ins-all, outs-all}
 use Rattle.sheet.proofs.Below.{insBelow, insBelow-ins}
 use Rattle.reduction.specs.Columns.{same, firsts, firstsAt, width}
 use Rattle.reduction.specs.Merge.{mergeAt, merged, reduced, tooWide, refuse7}
@@ -34,33 +33,6 @@ one-column n a b f h =
     (λ l. omega (arith, width-positive n a b f))
 
 module _ (j : Job) where
-  pub ins-rise : (h g : ℕ) → h ≤ g → ins j h ≤ ins j g
-  unfolding ins
-  ins-rise = count-rise (λ k. isInput (varAt j (suc k)))
-
-  pub outs-rise : (h g : ℕ) → h ≤ g → outs j h ≤ outs j g
-  unfolding outs
-  outs-rise = count-rise (λ k. not (isInput (varAt j (suc k))))
-
-  pub ins-step : (h : ℕ) → (ins j h ≤ ins j (suc h)) × (ins j (suc h) ≤ ins j h + 1)
-  unfolding ins
-  ins-step = count-more (λ k. isInput (varAt j (suc k)))
-
-  -- the lists are as long as the counts
-  ins-length : (h : ℕ) → length (inputsTo (t j) (j .order) h) ≡ ins j h
-  unfolding ins inputsTo
-  ins-length zero = refl
-  ins-length (suc h) =
-      let e = ins-length h in
-      by-test (isInput (varAt j (suc h))) (λ p. rw (p, length-append) (omega arith)) (λ p. rw p e)
-
-  outs-length : (h : ℕ) → length (outputsTo (t j) (j .order) h) ≡ outs j h
-  unfolding outs outputsTo
-  outs-length zero = refl
-  outs-length (suc h) =
-      let e = outs-length h in
-      by-test (isInput (varAt j (suc h))) (λ p. rw p e) (λ p. rw (p, length-append) (omega arith))
-
   -- there is one empty column
   pub width-bottom : (f : List ℕ) → width j f 0 ≡ 1
   unfolding width firstsAt ins outs same
@@ -74,24 +46,18 @@ module _ (j : Job) where
 
   -- an order in which each variable stands once
   module _ (once : notEachOnce (j .n) (j .m) (j .order) ≡ false) (few : j .n ≤ 12) (out : j .m ≤ 8) where
-    pub ins-all : ins j (t j) ≡ j .n
-    ins-all = sym (ins-length (t j)) ∙ inputs-length (j .n) (j .m) (j .order) once few out
-
-    pub outs-all : outs j (t j) ≡ j .m
-    outs-all = sym (outs-length (t j)) ∙ outputs-length (j .n) (j .m) (j .order) once few out
-
     ins-most : (k : ℕ) → ins j (t j - k) ≤ j .n
-    ins-most k = omega (arith, ins-rise (t j - k) (t j) (omega arith), ins-all)
+    ins-most k = omega (arith, ins-rise j (t j - k) (t j) (omega arith), ins-all j once few out)
 
     outs-most : (k : ℕ) → outs j (t j - k) ≤ j .m
-    outs-most k = omega (arith, outs-rise (t j - k) (t j) (omega arith), outs-all)
+    outs-most k = omega (arith, outs-rise j (t j - k) (t j) (omega arith), outs-all j once few out)
 
     -- there is one prefix of no inputs
     pub width-top : (f : List ℕ) → width j f (t j) ≡ 1
     unfolding width firstsAt
     width-top f =
         let a = ins j (t j) in
-        let e : 2 ^ (j .n - a) ≡ 1 = let z : j .n - a ≡ 0 = omega (arith, ins-all) in ap (λ (i : ℕ). 2 ^ i) z in
+        let e : 2 ^ (j .n - a) ≡ 1 = let z : j .n - a ≡ 0 = omega (arith, ins-all j once few out) in ap (λ (i : ℕ). 2 ^ i) z in
         omega (arith, e, width-few (j .n) a (outs j (t j)) f, width-positive (j .n) a (outs j (t j)) f)
 
     module _ (f : List ℕ) where
@@ -128,15 +94,15 @@ module _ (j : Job) where
           (settled-merge (j .n) (j .m) (ins j (t j - suc l)) (outs j (t j - suc l)) (merged j f l) (ins-most (suc l)) (outs-most (suc l))))
           (λ b.
           settled-kept (j .n) (j .m) (ins j (t j - suc k)) (outs j (t j - suc k)) (ins j (t j - suc l)) (outs j (t j - suc l)) (merged j f l)
-          (ins-rise (t j - suc l) (t j - suc k) (omega arith)) (ins-most (suc k))
-          (outs-rise (t j - suc l) (t j - suc k) (omega arith)) (outs-most (suc k)) (settled-after k l b))
+          (ins-rise j (t j - suc l) (t j - suc k) (omega arith)) (ins-most (suc k))
+          (outs-rise j (t j - suc l) (t j - suc k) (omega arith)) (outs-most (suc k)) (settled-after k l b))
 
       firsts-kept : (k l : ℕ) → k < l → firstsAt j (merged j f (suc l)) (t j - suc k) ≡ firstsAt j (merged j f l) (t j - suc k)
       unfolding firstsAt merged mergeAt
       firsts-kept k l h =
           widths-kept (j .n) (j .m) (ins j (t j - suc k)) (outs j (t j - suc k)) (ins j (t j - suc l)) (outs j (t j - suc l)) (merged j f l)
-          (ins-rise (t j - suc l) (t j - suc k) (omega arith)) (ins-most (suc k))
-          (outs-rise (t j - suc l) (t j - suc k) (omega arith)) (outs-most (suc k)) (settled-after k l h)
+          (ins-rise j (t j - suc l) (t j - suc k) (omega arith)) (ins-most (suc k))
+          (outs-rise j (t j - suc l) (t j - suc k) (omega arith)) (outs-most (suc k)) (settled-after k l h)
 
       firsts-after : (k l : ℕ) → k < l → firstsAt j (merged j f l) (t j - suc k) ≡ firstsAt j (merged j f (suc k)) (t j - suc k)
       firsts-after k zero h = absurd (not-suc-le-zero h)

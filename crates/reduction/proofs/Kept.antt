@@ -11,6 +11,7 @@ use native.Mathlib.Omega.{arith}
 use borrow.Author.Tests.{ne-eqb}
 use lib.ListN.{length, getD}
 use lib.Pow.{pow-add, pow-pos, shr-lt, split}
+use Rattle.laws.proofs.Powers.{place-below}
 use Rattle.laws.proofs.Cases.{by-less, by-equal, either, no-test}
 use Rattle.laws.proofs.Masks.{not-both}
 use Rattle.reduction.specs.Columns.{entry, same, numberIn, firsts}
@@ -20,7 +21,7 @@ use Rattle.reduction.specs.Merge.{graph, merge}
 use Rattle.reduction.proofs.Numbers.{same-entry, entry-same, same-sym, first-below, firsts-rise, first-smallest, number-below, number-same, number-equal, width-positive, firsts-ext, numberIn-ext}
 use Rattle.reduction.proofs.Agree.{compatible-entry, incompatible-at}
 use Rattle.reduction.proofs.Cliques.{cover-clique, cover-maximal}
-use Rattle.reduction.proofs.Merged.{opposite-bits, place-below, graph-sym, merge-upper, merge-keeps, merge-joins, merge-parts}
+use Rattle.reduction.proofs.Merged.{opposite-bits, graph-sym, merge-upper, merge-keeps, merge-joins, merge-parts}
 
 -- opposite values stay so where each 0 and 1 stays
 opposite-kept : (x y v w : ℕ) → (x < 2 → v ≡ x) → (y < 2 → w ≡ y) → opposite x y ≡ true → opposite v w ≡ true

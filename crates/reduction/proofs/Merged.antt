@@ -9,10 +9,10 @@ use native.Mathlib.Omega.{arith}
 use borrow.Author.Tests.{lt-ltb, le-ltb, eq-eqb, eqb-true}
 use lib.Dec.{eqb, ltb}
 use lib.ListN.{length, getD}
-use lib.Pow.{pow-add, high, low}
-use lib.Arith.{digits-lt}
+use lib.Pow.{high, low}
 use Rattle.laws.specs.Bits.{flag}
 use Rattle.laws.proofs.Bits.{flag-is}
+use Rattle.laws.proofs.Powers.{place-below}
 use Rattle.laws.proofs.Cases.{by-test, by-less, by-equal, cond-both, and-split, and-join, no-test}
 use Rattle.laws.proofs.Tests.{any-of, any-none}
 use Rattle.laws.proofs.Masks.{not-both}
@@ -32,12 +32,6 @@ opposite-bits x y e =
     (λ p.
     let s = and-split (eqb x 1) (eqb y 0) (rw p at e) in
     (omega (arith, eqb-true x 1 (s .0)), omega (arith, eqb-true y 0 (s .1))))
-
--- a place of a prefix's column is one of its line
-pub place-below : (n a p x : ℕ) → a ≤ n → p < 2 ^ (n - a) → x < 2 ^ a → p * 2 ^ a + x < 2 ^ n
-place-below n a p x ha hp hx =
-    let e : n - a + a ≡ n = omega arith in
-    rw (ap (λ (i : ℕ). 2 ^ i) (sym e) ∙ pow-add 2 (n - a) a) (digits-lt hp hx)
 
 module _ (n a b : ℕ) (f : List ℕ) where
   abbrev ps : List ℕ

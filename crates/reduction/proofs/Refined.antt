@@ -10,11 +10,12 @@ use native.Mathlib.Omega.{arith}
 use lib.ListN.{length, getD, length-append}
 use Rattle.laws.specs.Lists.{tab}
 use Rattle.laws.proofs.Cases.{last-or-below}
-use Rattle.laws.proofs.Lists.{length-tab, getD-tab, getD-rect}
+use Rattle.laws.proofs.Lists.{length-tab, getD-tab}
 use Rattle.sheet.specs.Job.{Job, t}
 use Rattle.sheet.specs.Refusals.{sheetRefusal}
-use Rattle.sheet.specs.Table.{tableAt, tableOf, table}
+use Rattle.sheet.specs.Table.{tableAt, table}
 use Rattle.sheet.specs.Planes.{Readable}
+use Rattle.sheet.proofs.Made.{table-entry}
 use Rattle.sheet.proofs.Least.{readable}
 use Rattle.sheet.proofs.Below.{insBelow, table-ruled}
 use Rattle.reduction.specs.Merge.{reduced, refuse7}
@@ -22,11 +23,6 @@ use Rattle.reduction.specs.Columns.{firstsAt, width, layers, widthIn}
 use Rattle.reduction.specs.Diagram.{nodeAt, nodesTo, nodes}
 use Rattle.reduction.proofs.Ruled.{Ruled}
 use Rattle.reduction.proofs.Final.{merged-ruled, reduced-keeps, width-top, width-fits}
-
-pub table-entry : (j : Job) (s : List ℕ) (k x : ℕ) → k < j .m → x < 2 ^ j .n
-    → getD (table j s) (k * 2 ^ j .n + x) 0 ≡ tableAt (j .n) (j .m) (j .order) s k x
-unfolding tableOf
-table-entry j s k x hk hx = getD-rect (2 ^ j .n) (tableAt (j .n) (j .m) (j .order) s) 0 (j .m) k x hk hx
 
 module _ (j : Job) (s : List ℕ) (e : sheetRefusal j s ≡ 0) where
   read : Readable (j .n) (j .m) (j .order) s

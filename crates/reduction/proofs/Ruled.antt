@@ -9,6 +9,7 @@ use native.Mathlib.Omega.{arith}
 use lib.Dec.{eqb}
 use lib.ListN.{length, getD}
 use lib.Pow.{pow-pos, pow-add, shr-lt}
+use Rattle.laws.proofs.Powers.{place-below}
 use Rattle.laws.proofs.Cases.{by-less}
 use Rattle.laws.proofs.Tests.{any-ext}
 use Rattle.sheet.specs.Values.{free}
@@ -16,7 +17,7 @@ use Rattle.reduction.specs.Columns.{entry, numberIn, firsts}
 use Rattle.reduction.specs.Cover.{cover}
 use Rattle.reduction.specs.Merge.{holds, product, graph, merge}
 use Rattle.reduction.proofs.Numbers.{first-below}
-use Rattle.reduction.proofs.Merged.{place-below, merge-upper, merge-entry}
+use Rattle.reduction.proofs.Merged.{merge-upper, merge-entry}
 
 -- x with its c lowest bits cleared
 abbrev cleared : ℕ → ℕ → ℕ

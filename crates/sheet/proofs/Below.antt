@@ -3,23 +3,23 @@
 use mathlib.Core.Path.{_≡_, refl, sym, _∙_, ap}
 use mathlib.Core.Bool.{Bool, true, false, cond}
 use mathlib.Core.List.{List, [], _∷_, _++_}
-use Prim.Native.Nat.{ℕ, zero, suc, _+_, _-_, _*_, _/_, _%_, _^_, _<_, _≤_}
-use native.Mathlib.Nat.{div-add-mod', mod-lt, add-zero}
+use Prim.Native.Nat.{ℕ, zero, suc, _+_, _-_, _*_, _/_, _^_, _<_, _≤_}
 use native.Mathlib.Omega.{arith}
 use lib.Dec.{eqb}
 use lib.ListN.{length, getD}
-use lib.Pow.{pow-pos}
 use borrow.Author.Tests.{eq-eqb, ltb-false, not-true}
 use Rattle.laws.specs.Tests.{count}
 use Rattle.laws.specs.Bits.{bit}
+use Rattle.laws.proofs.Cases.{cond-not}
 use Rattle.laws.proofs.Counts.{count-rise}
-use Rattle.laws.proofs.Bits.{bit-high}
+use Rattle.laws.proofs.Picked.{count-once, count-place, picked-at, picked-from}
+use Rattle.laws.proofs.Bits.{cleared-bit}
 use Rattle.sheet.specs.Job.{Job, t, isInput, outputByte, ins, outs, inputsTo, outputsTo, wordOf}
 use Rattle.sheet.specs.Refusals.{times, notEachOnce, placeOf, heightOf, refuse1, refuse2, refuse3, refuse4, refuse5, refuse6, sheetRefusal}
 use Rattle.sheet.specs.Table.{tableAt}
 use Rattle.sheet.specs.Planes.{Readable}
 use Rattle.sheet.proofs.Good.{order-length, input-once, output-once, place-lt, at-place}
-use Rattle.sheet.proofs.Orders.{count-once, count-place, picked-at, picked-from, up, isIn, isOut, lowered, cond-not, inputs-start, inputs-more, outputs-start, outputs-more, picked-inputs, picked-outputs, output-below, inputs-all}
+use Rattle.sheet.proofs.Orders.{up, inputAt, outputAt, lowered, inputs-start, inputs-more, outputs-start, outputs-more, picked-inputs, picked-outputs, output-below, inputs-all}
 use Rattle.sheet.proofs.Words.{word-bit, word-small}
 use Rattle.sheet.proofs.OrderRule.{value-settled}
 use Rattle.sheet.proofs.Least.{readable}
@@ -29,7 +29,7 @@ unfoldable pub insTo : ℕ → List ℕ → ℕ → List ℕ
 insTo t order zero = []
 insTo t order (suc h) =
     let l = insTo t order h in
-    cond (isInput (getD order (t - suc h) 0)) l (l ++ (count h (isIn t order) ∷ []))
+    cond (isInput (getD order (t - suc h) 0)) l (l ++ (count h (inputAt t order) ∷ []))
 
 -- below the output with k outputs below it
 unfoldable pub insBelow : ℕ → List ℕ → ℕ → ℕ
@@ -40,21 +40,21 @@ module _ (t : ℕ) (order : List ℕ) where
   unfolding insTo
   ins-start = refl
 
-  ins-more : (h : ℕ) → insTo t order (suc h) ≡ cond (isOut t order h) (insTo t order h ++ (count h (isIn t order) ∷ [])) (insTo t order h)
+  ins-more : (h : ℕ) → insTo t order (suc h) ≡ cond (outputAt t order h) (insTo t order h ++ (count h (inputAt t order) ∷ [])) (insTo t order h)
   unfolding insTo
-  ins-more h = cond-not (isIn t order h) _ _
+  ins-more h = cond-not (inputAt t order h) _ _
 
   -- of the output at height h + 1
-  pub insBelow-at : (h : ℕ) → h < t → isOut t order h ≡ true → insBelow t order (count h (isOut t order)) ≡ count h (isIn t order)
+  pub insBelow-at : (h : ℕ) → h < t → outputAt t order h ≡ true → insBelow t order (count h (outputAt t order)) ≡ count h (inputAt t order)
   unfolding insBelow
-  insBelow-at h l e = picked-at (isOut t order) (λ h. count h (isIn t order)) (insTo t order) ins-start ins-more t h l e
+  insBelow-at h l e = picked-at (outputAt t order) (λ h. count h (inputAt t order)) (insTo t order) ins-start ins-more t h l e
 
   -- an output at heights h to 1 has no more inputs below it than stand there
-  insBelow-few : (h k : ℕ) → h ≤ t → k < count h (isOut t order) → insBelow t order k ≤ count h (isIn t order)
+  insBelow-few : (h k : ℕ) → h ≤ t → k < count h (outputAt t order) → insBelow t order k ≤ count h (inputAt t order)
   insBelow-few h k l e =
-      let (q, q<, out, same) = count-place (isOut t order) h k e in
-      let fewer = count-rise (isIn t order) q h (omega arith) in
-      let is : insBelow t order k ≡ count q (isIn t order) = ap (insBelow t order) (sym same) ∙ insBelow-at q (omega arith) out in
+      let (q, q<, out, same) = count-place (outputAt t order) h k e in
+      let fewer = count-rise (inputAt t order) q h (omega arith) in
+      let is : insBelow t order k ≡ count q (inputAt t order) = ap (insBelow t order) (sym same) ∙ insBelow-at q (omega arith) out in
       omega arith
 
 pub insBelow-ins : (j : Job) (h k : ℕ) → h ≤ t j → k < outs j h → insBelow (t j) (j .order) k ≤ ins j h
@@ -64,19 +64,10 @@ insBelow-ins j h k = insBelow-few (t j) (j .order) h k
 module _ (n m : ℕ) (order : List ℕ) (once : notEachOnce n m order ≡ false) (few : n ≤ 12) (out : m ≤ 8) where
   pub insBelow-rise : (k q : ℕ) → k < q → q < m → insBelow (n + m) order k ≤ insBelow (n + m) order q
   insBelow-rise k q h l =
-      let (p, p<, is, same) = count-place (isOut (n + m) order) (n + m) q (omega (arith, picked-outputs n m order once few out)) in
+      let (p, p<, is, same) = count-place (outputAt (n + m) order) (n + m) q (omega (arith, picked-outputs n m order once few out)) in
       let less = insBelow-few (n + m) order p k (omega arith) (omega arith) in
-      let at : insBelow (n + m) order q ≡ count p (isIn (n + m) order) = ap (insBelow (n + m) order) (sym same) ∙ insBelow-at (n + m) order p p< is in
+      let at : insBelow (n + m) order q ≡ count p (inputAt (n + m) order) = ap (insBelow (n + m) order) (sym same) ∙ insBelow-at (n + m) order p p< is in
       omega arith
-
--- clearing the c lowest bits keeps those from c on
-cleared-bit : (x c q : ℕ) → c ≤ q → bit (x / 2 ^ c * 2 ^ c) q ≡ bit x q
-cleared-bit x c q h =
-    let p = x / 2 ^ c in
-    let e : c + (q - c) ≡ q = omega arith in
-    ap (bit (p * 2 ^ c)) (sym e) ∙ ap (λ (z : ℕ). bit z (c + (q - c))) (sym (add-zero (p * 2 ^ c)))
-    ∙ bit-high p c 0 (q - c) (pow-pos c) ∙ sym (bit-high p c (x % 2 ^ c) (q - c) (mod-lt x (pow-pos c)))
-    ∙ ap (λ (z : ℕ). bit z (c + (q - c))) (div-add-mod' x (2 ^ c)) ∙ ap (bit x) e
 
 -- the height of the variable that stands at height k + 1
 height-at : (j : Job) (v k : ℕ) → length (j .order) ≡ t j → times (j .order) v ≡ 1 → k < t j → up (t j) (j .order) k ≡ v → heightOf j v ≡ suc k
@@ -115,11 +106,11 @@ module _ (j : Job) (s : List ℕ) (e : sheetRefusal j s ≡ 0) where
 
   -- the output on line k, by its height
   output-height : (k : ℕ) → k < j .m
-      → (h : ℕ) × (heightOf j (outputByte (getD outputs k 0)) ≡ suc h) × (insBelow (t j) (j .order) k ≡ count h (isIn (t j) (j .order)))
+      → (h : ℕ) × (heightOf j (outputByte (getD outputs k 0)) ≡ suc h) × (insBelow (t j) (j .order) k ≡ count h (inputAt (t j) (j .order)))
   output-height k k< =
       let c = read in
       let (h, h<, is, same, at) =
-      picked-from (isOut (t j) (j .order)) (lowered (t j) (j .order)) (outputsTo (t j) (j .order))
+      picked-from (outputAt (t j) (j .order)) (lowered (t j) (j .order)) (outputsTo (t j) (j .order))
       (outputs-start (j .n) (j .m) (j .order) (c .order-whole) (c .inputs) (c .outputs))
       (outputs-more (j .n) (j .m) (j .order) (c .order-whole) (c .inputs) (c .outputs)) (t j) k
       (omega (arith, picked-outputs (j .n) (j .m) (j .order) (c .order-whole) (c .inputs) (c .outputs))) in
@@ -138,7 +129,7 @@ module _ (j : Job) (s : List ℕ) (e : sheetRefusal j s ≡ 0) where
       let c = read in
       let (q, q<, is) = inputs-all (j .n) (j .m) (j .order) (c .order-whole) (c .inputs) (c .outputs) i i< in
       let (h, h<, input, same, at) =
-      picked-from (isIn (t j) (j .order)) (up (t j) (j .order)) (inputsTo (t j) (j .order))
+      picked-from (inputAt (t j) (j .order)) (up (t j) (j .order)) (inputsTo (t j) (j .order))
       (inputs-start (j .n) (j .m) (j .order) (c .order-whole) (c .inputs) (c .outputs))
       (inputs-more (j .n) (j .m) (j .order) (c .order-whole) (c .inputs) (c .outputs)) (t j) q
       (omega (arith, picked-inputs (j .n) (j .m) (j .order) (c .order-whole) (c .inputs) (c .outputs))) in
@@ -146,7 +137,7 @@ module _ (j : Job) (s : List ℕ) (e : sheetRefusal j s ≡ 0) where
       height-at j i h (order-length (j .n) (j .m) (j .order) (c .order-whole)) (input-once (j .n) (j .m) (j .order) (c .order-whole) i i<) h<
       (sym at ∙ is) in
       let (g, low, below) = output-height k k< in
-      let fewer = count-rise (isIn (t j) (j .order)) g h (omega arith) in
+      let fewer = count-rise (inputAt (t j) (j .order)) g h (omega arith) in
       (q, q<, is, omega arith)
 
   -- the value on line k does not depend on the inputs below its output

@@ -9,14 +9,8 @@ use borrow.Author.Tests.{lt-ltb, le-ltb}
 use lib.ListN.{length, getD, set, length-append}
 use lib.Seq.{sets}
 use Rattle.laws.proofs.Cases.{cond-yes, cond-no}
-use Rattle.laws.proofs.Puts.{sets-append}
+use Rattle.laws.proofs.Puts.{sets-snoc}
 use Rattle.sheet.specs.Job.{isInput, inputsTo, outputsTo}
-
--- one element more after what is stored
-pub sets-snoc : (l a : List ℕ) (n v : ℕ) → n ≡ length a → set (sets l 0 a) n v ≡ sets l 0 (a ++ (v ∷ []))
-sets-snoc l a n v e =
-    let z : 0 + length a ≡ n = omega arith in
-    ap (λ (k : ℕ). set (sets l 0 a) k v) (sym z) ∙ sym (sets-append a (v ∷ []) l 0)
 
 module _ (t : ℕ) (order : List ℕ) (h : ℕ) where
   abbrev v : ℕ

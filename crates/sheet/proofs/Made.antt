@@ -4,10 +4,10 @@ use mathlib.Core.Path.{_≡_, refl, sym, _∙_, ap, ap₂}
 use mathlib.Core.Bool.{Bool, true, false, not, cond, _&&_, _||_}
 use mathlib.Core.List.{List}
 use Prim.Native.Nat.{ℕ, zero, suc, _+_, _-_, _*_, _%_, _^_, _<_, _≤_}
-use native.Mathlib.Nat.{zero-add, mod-eq-of-lt, mod-lt}
+use native.Mathlib.Nat.{mod-eq-of-lt, mod-lt}
 use native.Mathlib.Omega.{arith}
 use lib.Dec.{eqb, ltb}
-use lib.ListN.{length, getD, replicate, length-replicate, getD-replicate}
+use lib.ListN.{length, getD, replicate, length-replicate}
 use lib.Seq.{sets}
 use lib.Bits.{bitOr}
 use lib.Pow.{pow-mono}
@@ -17,16 +17,16 @@ use Rattle.laws.specs.Lists.{puts, rect}
 use Rattle.laws.specs.Bits.{has, flag}
 use Rattle.laws.proofs.Cases.{or-split}
 use Rattle.laws.proofs.Tests.{any-ext, any-or, any-out}
-use Rattle.laws.proofs.Lists.{length-rect, rect-ext, rect-each}
-use Rattle.laws.proofs.Filled.{written-sets, getD-written}
-use Rattle.laws.proofs.Puts.{getD-puts, length-puts}
+use Rattle.laws.proofs.Lists.{length-rect, getD-rect, rect-ext, rect-each}
+use Rattle.laws.proofs.Filled.{laid}
+use Rattle.laws.proofs.Puts.{getD-puts, length-puts, stored, stored-over}
 use Rattle.laws.proofs.Bits.{has-or, flag-has}
-use Rattle.laws.proofs.Masks.{has-zero}
+use Rattle.laws.proofs.Masks.{has-zero, has-cond}
 use Rattle.sheet.specs.Records.{recordCount, byte, matches, forces0, forces1}
-use Rattle.sheet.specs.Job.{inputsTo, outputsTo, wordOf, numberOf}
+use Rattle.sheet.specs.Job.{Job, inputsTo, outputsTo, wordOf, numberOf}
 use Rattle.sheet.specs.Values.{forcedTo0, forcedTo1, value}
 use Rattle.sheet.specs.Refusals.{refuse3, malformed, anyMalformed}
-use Rattle.sheet.specs.Table.{tableAt, tableOf}
+use Rattle.sheet.specs.Table.{tableAt, tableOf, table}
 use Rattle.sheet.specs.Pairs.{pairOf}
 use Rattle.sheet.specs.Planes.{agrees, added, highAdded, lowAdded, marks, numberTo, lineValue, inputArray, outputArray, fieldArray, byteArray, numberArray, numberedField, highPlane, lowRow, planeOf, lineAt, madeTable, Readable}
 use Rattle.sheet.proofs.Good.{order-length}
@@ -36,10 +36,6 @@ use Rattle.sheet.proofs.Clashes.{value-below}
 use Rattle.sheet.proofs.Blocks.{added-parts}
 
 -- an output is forced at a place where a record forces it that has the place
-has-cond : (b : Bool) (f o : ℕ) → has (cond b f 0) o ≡ (b && has f o)
-has-cond true f o = refl
-has-cond false f o = has-zero o
-
 added-has : (k v f x o : ℕ) → has (added k v f x) o ≡ (agrees k v x && has f o)
 unfolding added
 added-has k v f x o = has-cond (agrees k v x) f o
@@ -62,21 +58,6 @@ parts-has ks vs fs n x o =
     (λ r l.
     sym (has-or (g r) (h r) o) ∙ ap (λ (z : ℕ). has z o) (added-parts (getD ks r 0) (getD vs r 0) (getD fs r 0) x)
     ∙ added-has (getD ks r 0) (getD vs r 0) (getD fs r 0) x o)
-
--- arrays of any size that hold zeros before anything is stored
-stored : (size n : ℕ) (f : ℕ → ℕ) (i : ℕ) → n ≤ size → i < n → getD (puts n f (replicate size 0)) i 0 ≡ f i
-stored size n f i h l = getD-puts f n (replicate size 0) 0 i l (omega (arith, length-replicate {A = ℕ} size 0))
-
-stored-over : (size : ℕ) (g : ℕ → ℕ → ℕ) (i : ℕ) → i < size
-    → getD (puts size (λ k. g (getD (replicate size 0) k 0) k) (replicate size 0)) i 0 ≡ g 0 i
-stored-over size g i h =
-    stored size size (λ k. g (getD (replicate size 0) k 0) k) i (omega arith) h ∙ ap (λ (a : ℕ). g a i) (getD-replicate size i 0 0 h)
-
-laid : (size : ℕ) (l : List ℕ) (i : ℕ) → length l ≤ size → i < length l → getD (sets (replicate size 0) 0 l) i 0 ≡ getD l i 0
-laid size l i h b =
-    let fits : 0 + length l ≤ length (replicate {A = ℕ} size 0) = omega (arith, length-replicate {A = ℕ} size 0) in
-    ap₂ (λ (a : List ℕ) (k : ℕ). getD a k 0) (sym (written-sets (replicate size 0) 0 l fits)) (sym (zero-add i))
-    ∙ getD-written (replicate size 0) 0 l fits 0 i b
 
 field-at : (s : List ℕ) (lo hi r : ℕ) → recordCount s ≤ 256 → r < recordCount s → getD (fieldArray s lo hi) r 0 ≡ pairOf s lo hi r
 unfolding fieldArray
@@ -235,3 +216,8 @@ pub lined : (n m : ℕ) (order s : List ℕ) → Readable n m order s → (ks vs
     → rect m (2 ^ n) (lineAt zs ys os) ≡ tableOf n m order s
 unfolding madeTable
 lined n m order s h ks vs zs ys os p q z y o = rw (z, y, o, p, q) (table-made n m order s h)
+
+pub table-entry : (j : Job) (s : List ℕ) (k x : ℕ) → k < j .m → x < 2 ^ j .n
+    → getD (table j s) (k * 2 ^ j .n + x) 0 ≡ tableAt (j .n) (j .m) (j .order) s k x
+unfolding tableOf
+table-entry j s k x hk hx = getD-rect (2 ^ j .n) (tableAt (j .n) (j .m) (j .order) s) 0 (j .m) k x hk hx
