@@ -1,4 +1,5 @@
 -- The reduction layer's laws.
+pub mod Numbering
 pub mod Numbers
 pub mod Agree
 pub mod Rounds

@@ -2,14 +2,15 @@
 -- f is a table of lines of 2^n values, as in the sheet layer's Table; a inputs and b outputs stand at heights h to 1.
 -- A prefix is a value of the n - a inputs above, read as a number, topmost input most significant.
 -- Assumes nothing.
-use Prim.Native.Nat.{ℕ, zero, suc, _+_, _-_, _*_, _^_}
-use mathlib.Core.Bool.{Bool, cond}
-use mathlib.Core.List.{List, [], _∷_, _++_}
-use lib.Dec.{eqb, ltb}
+use Prim.Native.Nat.{ℕ, suc, _+_, _-_, _*_, _^_}
+use mathlib.Core.Bool.{Bool}
+use mathlib.Core.List.{List, []}
+use lib.Dec.{eqb}
 use lib.ListN.{length, getD}
-use Rattle.laws.specs.Tests.{every, least}
+use Rattle.laws.specs.Tests.{every}
 use Rattle.laws.specs.Lists.{tab}
 use Rattle.sheet.specs.Job.{Job, t, ins, outs}
+use Rattle.reduction.specs.Numbering.{indexIn, firstsOf}
 
 -- the column of prefix p: the value that the output with k outputs below it takes where the inputs at heights h to 1 are x
 abbrev pub entry : ℕ → ℕ → List ℕ → ℕ → ℕ → ℕ → ℕ
@@ -24,18 +25,11 @@ same n a b f p q = every b (sameLine n a f p q)
 
 -- the number of prefix p's column, where ps are the smallest prefixes of the columns in rising order; length ps, if it is none of these
 unfoldable pub numberIn : ℕ → ℕ → ℕ → List ℕ → List ℕ → ℕ → ℕ
-numberIn n a b f ps p = least (length ps) (λ c. same n a b f p (getD ps c 0))
-
--- the smallest prefixes of the columns of the prefixes below p, in rising order
-unfoldable pub firstsBelow : ℕ → ℕ → ℕ → List ℕ → ℕ → List ℕ
-firstsBelow n a b f zero = []
-firstsBelow n a b f (suc p) =
-    let ps = firstsBelow n a b f p in
-    cond (ltb (numberIn n a b f ps p) (length ps)) ps (ps ++ (p ∷ []))
+numberIn n a b f = indexIn (same n a b f)
 
 -- columns are numbered by their smallest prefix, from 0: column c is that of prefix c of this list
 unfoldable pub firsts : ℕ → ℕ → ℕ → List ℕ → List ℕ
-firsts n a b f = firstsBelow n a b f (2 ^ (n - a))
+firsts n a b f = firstsOf (same n a b f) (2 ^ (n - a))
 
 -- the same at the height h of a job
 unfoldable pub firstsAt : Job → List ℕ → ℕ → List ℕ

@@ -1,8 +1,13 @@
 -- The reduction layer's definitions.
+pub mod Numbering
 pub mod Columns
 pub mod Compatible
 pub mod Cover
 pub mod Merge
 pub mod Diagram
 pub mod Walk
+pub mod Compare
+pub mod Descent
+pub mod Packed
+pub mod Distinct
 pub mod Opened

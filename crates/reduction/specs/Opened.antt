@@ -1,6 +1,7 @@
 -- Names every definition of the layer that computes: a proof that says `unfolding reductionOpened` computes with them all.
 -- Assumes nothing.
-use Rattle.reduction.specs.Columns.{sameLine, same, numberIn, firstsBelow, firsts, firstsAt, numberAt, width, layers}
+use Rattle.reduction.specs.Numbering.{indexIn, firstsOf}
+use Rattle.reduction.specs.Columns.{sameLine, same, numberIn, firsts, firstsAt, numberAt, width, layers}
 use Rattle.reduction.specs.Compatible.{compatibleLine, compatible}
 use Rattle.reduction.specs.Cover.{linked, edges, fewer, fewest, staying, candidates, grown, clique, leave, owned, rounds, cover}
 use Rattle.reduction.specs.Merge.{holds, product, graph, merge, mergeAt, merged, reduced, tooWide, refuse7}
@@ -8,5 +9,5 @@ use Rattle.reduction.specs.Diagram.{nodesAbove, nodeOf, inputNode, outpu
 use Rattle.reduction.specs.Walk.{child, walk}
 
 unfoldable pub reductionOpened : Unit {0}
-unfolding sameLine same numberIn firstsBelow firsts firstsAt numberAt width layers compatibleLine compatible linked edges fewer fewest staying candidates grown clique leave owned rounds cover holds product graph merge mergeAt merged reduced tooWide refuse7 nodesAbove nodeOf inputNode outputNode topValue nodeAt nodesTo nodes child walk
+unfolding indexIn firstsOf sameLine same numberIn firsts firstsAt numberAt width layers compatibleLine compatible linked edges fewer fewest staying candidates grown clique leave owned rounds cover holds product graph merge mergeAt merged reduced tooWide refuse7 nodesAbove nodeOf inputNode outputNode topValue nodeAt nodesTo nodes child walk
 reductionOpened = tt

@@ -6,3 +6,9 @@ pub struct Node {
     pub low: u16,
     pub high: u16,
 }
+
+// The end of a walk from one cut to the next: the node reached and the outputs met, topmost most significant.
+pub struct Reached {
+    pub node: u16,
+    pub outputs: u32,
+}
