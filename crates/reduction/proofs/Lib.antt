@@ -1,6 +1,7 @@
 -- The reduction layer's laws.
 pub mod Numbering
 pub mod Numbers
+pub mod Planes
 pub mod Agree
 pub mod Rounds
 pub mod Cliques
