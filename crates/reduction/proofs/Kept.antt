@@ -75,7 +75,7 @@ module _ (n m a b a′ b′ : ℕ) (f : List ℕ) (ha′ : a′ ≤ a) (ha : a �
   after = merge n m a′ b′ f
 
   -- a place of prefix p's column is one of a column with fewer inputs
-  deeper : (p y z : ℕ) → (p * 2 ^ (a - a′) + y) * 2 ^ a′ + z ≡ p * 2 ^ a + (y * 2 ^ a′ + z)
+  pub deeper : (p y z : ℕ) → (p * 2 ^ (a - a′) + y) * 2 ^ a′ + z ≡ p * 2 ^ a + (y * 2 ^ a′ + z)
   deeper p y z =
       let e : a - a′ + a′ ≡ a = omega arith in
       let s : 2 ^ a ≡ 2 ^ (a - a′) * 2 ^ a′ = ap (λ (i : ℕ). 2 ^ i) (sym e) ∙ pow-add 2 (a - a′) a′ in
@@ -87,7 +87,7 @@ module _ (n m a b a′ b′ : ℕ) (f : List ℕ) (ha′ : a′ ≤ a) (ha : a �
       let e : n - a′ - (a - a′) ≡ n - a = omega arith in
       place-below (n - a′) (a - a′) p y (omega arith) (rw e hp) hy
 
-  same-deeper : (p q y : ℕ) → y < 2 ^ (a - a′) → same n a b f p q ≡ true
+  pub same-deeper : (p q y : ℕ) → y < 2 ^ (a - a′) → same n a b f p q ≡ true
       → same n a′ b′ f (p * 2 ^ (a - a′) + y) (q * 2 ^ (a - a′) + y) ≡ true
   same-deeper p q y hy e =
       entry-same n a′ b′ f (p * 2 ^ (a - a′) + y) (q * 2 ^ (a - a′) + y) (λ k z hk hz.

@@ -11,4 +11,7 @@ pub mod Ruled
 pub mod Final
 pub mod Refined
 pub mod Nodes
+pub mod Children
+pub mod Descents
+pub mod Walks
 pub mod Examples

@@ -68,10 +68,13 @@ module _ (n a b : ℕ) (f : List ℕ) where
   unfolding numberIn
   number-first = index-first (same n a b f) same-equivalence (2 ^ (n - a)) (firsts n a b f) numbered-firsts
 
+  pub numberIn-equal : (ps : List ℕ) (p q : ℕ) → same n a b f p q ≡ true → numberIn n a b f ps p ≡ numberIn n a b f ps q
+  unfolding numberIn
+  numberIn-equal = index-equal (same n a b f) same-equivalence
+
   pub number-equal : (p q : ℕ) → p < 2 ^ (n - a) → q < 2 ^ (n - a) → same n a b f p q ≡ true
       → numberIn n a b f (firsts n a b f) p ≡ numberIn n a b f (firsts n a b f) q
-  unfolding numberIn
-  number-equal p q hp hq e = index-equal (same n a b f) same-equivalence (firsts n a b f) p q e
+  number-equal p q hp hq e = numberIn-equal (firsts n a b f) p q e
 
   pub equal-number : (p q : ℕ) → p < 2 ^ (n - a) → q < 2 ^ (n - a)
       → numberIn n a b f (firsts n a b f) p ≡ numberIn n a b f (firsts n a b f) q → same n a b f p q ≡ true

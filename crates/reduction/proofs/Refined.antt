@@ -34,7 +34,7 @@ module _ (j : Job) (s : List ℕ) (e : sheetRefusal j s ≡ 0) where
   reduced-refines k x v hk hx hv is =
       reduced-keeps j (read .order-whole) (read .inputs) (read .outputs) (table j s) k x v hk hx hv (table-entry j s k x hk hx ∙ is)
 
-  sheet-ruled : Ruled (j .n) (j .m) (insBelow (t j) (j .order)) (table j s)
+  pub sheet-ruled : Ruled (j .n) (j .m) (insBelow (t j) (j .order)) (table j s)
   sheet-ruled k x hk hx =
       let b = insBelow (t j) (j .order) k in
       table-entry j s k x hk hx ∙ table-ruled j s e k x hk hx

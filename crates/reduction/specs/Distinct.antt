@@ -25,3 +25,7 @@ agreeWords zs os size p q =
 -- the columns c and d, of which ps gives the packed columns, are different and compatible
 unfoldable pub linkedWords : List ℕ → List ℕ → ℕ → List ℕ → ℕ → ℕ → Bool
 linkedWords zs os size ps c d = not (eqb c d) && agreeWords zs os size (getD ps c 0) (getD ps d 0)
+
+-- the columns c and d belong to one clique
+unfoldable pub sameOwner : List ℕ → ℕ → ℕ → Bool
+sameOwner owner c d = eqb (getD owner c 0) (getD owner d 0)
