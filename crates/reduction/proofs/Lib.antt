@@ -4,9 +4,11 @@ pub mod Numbers
 pub mod Planes
 pub mod Agree
 pub mod Rounds
+pub mod Alike
 pub mod Cliques
 pub mod Merged
 pub mod Kept
+pub mod Candidates
 pub mod Ruled
 pub mod Final
 pub mod Refined

@@ -66,7 +66,7 @@ pub record Part (w : ℕ) (graph left s q : List ℕ) : Type 0 where
 
 module _ (w : ℕ) (graph : List ℕ) where
   -- the member with fewest edges is a member; where there is none the set is empty
-  fewest-in : (es s : List ℕ) (c : ℕ) → (fewest w graph es s c ≡ w → ⊥)
+  pub fewest-in : (es s : List ℕ) (c : ℕ) → (fewest w graph es s c ≡ w → ⊥)
       → (fewest w graph es s c < c) × (isIn s (fewest w graph es s c) ≡ true)
   unfolding fewest
   fewest-in es s zero ne = absurd (ne refl)
@@ -83,7 +83,7 @@ module _ (w : ℕ) (graph : List ℕ) where
       by true e ne′ ih = (omega arith, and-split (isIn s c) better e .0)
       by false e ne′ ih = let r = ih ne′ in (omega arith, r .1)
 
-  fewest-none : (es s : List ℕ) (c : ℕ) → c ≤ w → fewest w graph es s c ≡ w → (d : ℕ) → d < c → isIn s d ≡ false
+  pub fewest-none : (es s : List ℕ) (c : ℕ) → c ≤ w → fewest w graph es s c ≡ w → (d : ℕ) → d < c → isIn s d ≡ false
   unfolding fewest fewer
   fewest-none es s zero h e d l = absurd (not-suc-le-zero l)
   fewest-none es s (suc c) h e d l = by (isIn s c && better) refl e (λ p q. fewest-none es s c (omega arith) p d q)
