@@ -9,6 +9,7 @@ pub mod Cliques
 pub mod Merged
 pub mod Kept
 pub mod Candidates
+pub mod Lowered
 pub mod Ruled
 pub mod Final
 pub mod Refined
