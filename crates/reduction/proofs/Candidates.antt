@@ -102,10 +102,14 @@ module _ (n a b : ℕ) (g : List ℕ) (ha : suc a ≤ n) where
       let er : q % 2 ≡ p % 2 = omega arith in
       let least = first-least n (suc a) b g (p / 2) up in
       let whole : p / 2 * 2 + p % 2 ≡ p = omega arith in
-      let is : named q ≡ getD ps c 0 * 2 + p % 2 = ap (λ (i : ℕ). getD ps i 0 * 2 + q % 2) eq ∙ ap (λ (i : ℕ). getD ps c 0 * 2 + i) er in
-      (q, omega arith, omega (arith, is), rw is
-      (ap (λ (i : ℕ). same n a b g i (getD ps c 0 * 2 + p % 2)) (sym whole)
-      ∙ halves-same (p / 2) (getD ps c 0) (p % 2) (omega arith) (number-same n (suc a) b g (p / 2) up)))
+      let is : named q ≡ getD ps c 0 * 2 + p % 2 = ap (λ (i : ℕ). getD ps i 0 * 2 + q % 2) eq ∙ ap (λ (i : ℕ). getD ps c 0 * 2 + i) er in (
+        q,
+        omega arith,
+        omega (arith, is),
+        rw is
+            (ap (λ (i : ℕ). same n a b g i (getD ps c 0 * 2 + p % 2)) (sym whole)
+            ∙ halves-same (p / 2) (getD ps c 0) (p % 2) (omega arith) (number-same n (suc a) b g (p / 2) up)),
+      )
 
   pub input-names : Names n a b g (length (firsts n (suc a) b g) * 2) (λ q. getD (firsts n (suc a) b g) (q / 2) 0 * 2 + q % 2)
   input-names = record { rise = rises; into = inside; onto = reaches }

@@ -10,6 +10,7 @@ pub mod Merged
 pub mod Kept
 pub mod Candidates
 pub mod Lowered
+pub mod Products
 pub mod Ruled
 pub mod Final
 pub mod Refined

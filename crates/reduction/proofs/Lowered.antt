@@ -231,8 +231,7 @@ module _ (n m a b : ℕ) (g : List ℕ) (ha : a ≤ n) (hb : b ≤ m) where
         rise = firsts-rise n a b g;
         into = first-below n a b g;
         onto = λ p h.
-            let hc = number-below n a b g p h in
-            (
+            let hc = number-below n a b g p h in (
               number p,
               hc,
               first-least n a b g p h,

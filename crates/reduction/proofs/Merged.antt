@@ -122,7 +122,7 @@ module _ (n a b : ℕ) (f : List ℕ) where
         never-both c d k x hc hd hk hx (sym (eqb-true (getD owner d 0) (getD owner c 0) (s .0))) e (eqb-true (value d k x) 0 (s .1))))
 
     -- the product keeps each 0 and each 1 of a member
-    product-keeps : (c k x v : ℕ) → c < w → k < b → x < 2 ^ a → v < 2 → value c k x ≡ v → product n a b f ps owner (getD owner c 0) k x ≡ v
+    pub product-keeps : (c k x v : ℕ) → c < w → k < b → x < 2 ^ a → v < 2 → value c k x ≡ v → product n a b f ps owner (getD owner c 0) k x ≡ v
     unfolding product
     product-keeps c k x v hc hk hx hv e =
         by-equal v 0 (λ z. rw z (simp (holds-it 0 c k x hc (e ∙ z))))
