@@ -1,7 +1,7 @@
 -- All merges: what they keep, and that the columns of a height, once merged, are
 -- final, so that no width at a height of a merge is over 512.
 -- Assumes nothing.
-use mathlib.Core.Path.{_≡_, refl, _∙_, ap}
+use mathlib.Core.Path.{_≡_, refl, sym, _∙_, ap}
 use mathlib.Core.Bool.{true, false}
 use mathlib.Core.List.{List}
 use Prim.Native.Nat.{ℕ, zero, suc, _+_, _-_, _*_, _^_, _<_, _≤_}
@@ -16,12 +16,12 @@ use Rattle.sheet.specs.Job.{Job, t, ins, outs}
 use Rattle.sheet.specs.Refusals.{notEachOnce}
 use Rattle.sheet.proofs.Orders.{ins-rise, outs-rise, ins-all, outs-all}
 use Rattle.sheet.proofs.Below.{insBelow, insBelow-ins}
-use Rattle.reduction.specs.Columns.{same, firsts, firstsAt, width}
+use Rattle.reduction.specs.Columns.{same, firsts, firstsAt, numberAt, width}
 use Rattle.reduction.specs.Merge.{mergeAt, merged, reduced, tooWide, refuse7}
-use Rattle.reduction.proofs.Numbers.{firsts-rise, first-smallest, width-positive, width-few}
-use Rattle.reduction.proofs.Merged.{merge-below}
+use Rattle.reduction.proofs.Numbers.{firsts-rise, first-smallest, width-positive, width-few, firsts-ext, numberIn-ext}
+use Rattle.reduction.proofs.Merged.{merge-upper, merge-below}
 use Rattle.reduction.proofs.Ruled.{Ruled, merge-ruled}
-use Rattle.reduction.proofs.Kept.{Settled, keeps-all, settled-merge, settled-kept, widths-kept, width-cliques}
+use Rattle.reduction.proofs.Kept.{Settled, keeps-all, settled-merge, settled-kept, same-still, width-cliques}
 
 -- columns that are all the same are one column
 one-column : (n a b : ℕ) (f : List ℕ) → ((p q : ℕ) → same n a b f p q ≡ true) → length (firsts n a b f) ≡ 1
@@ -97,20 +97,57 @@ module _ (j : Job) where
           (ins-rise j (t j - suc l) (t j - suc k) (omega arith)) (ins-most (suc k))
           (outs-rise j (t j - suc l) (t j - suc k) (omega arith)) (outs-most (suc k)) (settled-after k l b))
 
-      firsts-kept : (k l : ℕ) → k < l → firstsAt j (merged j f (suc l)) (t j - suc k) ≡ firstsAt j (merged j f l) (t j - suc k)
-      unfolding firstsAt merged mergeAt
-      firsts-kept k l h =
-          widths-kept (j .n) (j .m) (ins j (t j - suc k)) (outs j (t j - suc k)) (ins j (t j - suc l)) (outs j (t j - suc l)) (merged j f l)
+      same-next : (k l p q : ℕ) → k < l → p < 2 ^ (j .n - ins j (t j - suc k)) → q < 2 ^ (j .n - ins j (t j - suc k))
+          → same (j .n) (ins j (t j - suc k)) (outs j (t j - suc k)) (merged j f (suc l)) p q
+          ≡ same (j .n) (ins j (t j - suc k)) (outs j (t j - suc k)) (merged j f l) p q
+      unfolding merged mergeAt
+      same-next k l p q h =
+          same-still (j .n) (j .m) (ins j (t j - suc k)) (outs j (t j - suc k)) (ins j (t j - suc l)) (outs j (t j - suc l)) (merged j f l)
           (ins-rise j (t j - suc l) (t j - suc k) (omega arith)) (ins-most (suc k))
-          (outs-rise j (t j - suc l) (t j - suc k) (omega arith)) (outs-most (suc k)) (settled-after k l h)
+          (outs-rise j (t j - suc l) (t j - suc k) (omega arith)) (outs-most (suc k)) (settled-after k l h) p q
 
-      firsts-after : (k l : ℕ) → k < l → firstsAt j (merged j f l) (t j - suc k) ≡ firstsAt j (merged j f (suc k)) (t j - suc k)
-      firsts-after k zero h = absurd (not-suc-le-zero h)
-      firsts-after k (suc l) h = last-or-below k l h (λ e. rw e refl) (λ b. firsts-kept k l b ∙ firsts-after k l b)
+      same-after : (k l p q : ℕ) → k < l → p < 2 ^ (j .n - ins j (t j - suc k)) → q < 2 ^ (j .n - ins j (t j - suc k))
+          → same (j .n) (ins j (t j - suc k)) (outs j (t j - suc k)) (merged j f l) p q
+          ≡ same (j .n) (ins j (t j - suc k)) (outs j (t j - suc k)) (merged j f (suc k)) p q
+      same-after k zero p q h hp hq = absurd (not-suc-le-zero h)
+      same-after k (suc l) p q h hp hq =
+          last-or-below k l h (λ e. rw e refl) (λ b. same-next k l p q b hp hq ∙ same-after k l p q b hp hq)
+
+      -- a height's columns are final once they are merged: which are the same, their smallest prefixes, their numbers
+      pub same-final : (k p q : ℕ) → k < t j - 1 → p < 2 ^ (j .n - ins j (t j - suc k)) → q < 2 ^ (j .n - ins j (t j - suc k))
+          → same (j .n) (ins j (t j - suc k)) (outs j (t j - suc k)) (reduced j f) p q
+          ≡ same (j .n) (ins j (t j - suc k)) (outs j (t j - suc k)) (merged j f (suc k)) p q
+      unfolding reduced
+      same-final k p q h = same-after k (t j - 1) p q h
 
       pub firsts-final : (k : ℕ) → k < t j - 1 → firstsAt j (reduced j f) (t j - suc k) ≡ firstsAt j (merged j f (suc k)) (t j - suc k)
+      unfolding firstsAt
+      firsts-final k h =
+          firsts-ext (j .n) (ins j (t j - suc k)) (outs j (t j - suc k)) (reduced j f) (merged j f (suc k)) (λ p q. same-final k p q h)
+
+      pub numbers-final : (k p : ℕ) → k < t j - 1 → p < 2 ^ (j .n - ins j (t j - suc k))
+          → numberAt j (reduced j f) (firstsAt j (reduced j f) (t j - suc k)) (t j - suc k) p
+          ≡ numberAt j (merged j f (suc k)) (firstsAt j (merged j f (suc k)) (t j - suc k)) (t j - suc k) p
+      unfolding firstsAt numberAt
+      numbers-final k p h =
+          numberIn-ext (j .n) (ins j (t j - suc k)) (outs j (t j - suc k)) (reduced j f) (merged j f (suc k)) (λ p q. same-final k p q h) p
+
+      -- a line above a height is not touched by the merges there and below
+      lines-kept : (k l q x : ℕ) → k ≤ l → outs j (t j - suc k) ≤ q → q < j .m → x < 2 ^ j .n
+          → getD (merged j f l) (q * 2 ^ j .n + x) 0 ≡ getD (merged j f k) (q * 2 ^ j .n + x) 0
+      unfolding merged mergeAt
+      lines-kept k zero q x h o hq hx = let e : 0 ≡ k = omega arith in ap (λ (i : ℕ). getD (merged j f i) (q * 2 ^ j .n + x) 0) e
+      lines-kept k (suc l) q x h o hq hx =
+          last-or-below k (suc l) (omega arith) (λ e. ap (λ (i : ℕ). getD (merged j f i) (q * 2 ^ j .n + x) 0) (sym e))
+          (λ b.
+          merge-upper (j .n) (ins j (t j - suc l)) (outs j (t j - suc l)) (merged j f l) (j .m) q x hq hx
+          (omega (arith, outs-rise j (t j - suc l) (t j - suc k) (omega arith)))
+          ∙ lines-kept k l q x (omega arith) o hq hx)
+
+      pub lines-final : (k q x : ℕ) → k ≤ t j - 1 → outs j (t j - suc k) ≤ q → q < j .m → x < 2 ^ j .n
+          → getD (reduced j f) (q * 2 ^ j .n + x) 0 ≡ getD (merged j f k) (q * 2 ^ j .n + x) 0
       unfolding reduced
-      firsts-final k h = firsts-after k (t j - 1) h
+      lines-final k q x h = lines-kept k (t j - 1) q x h
 
       pub width-final : (k : ℕ) → k < t j - 1 → width j (reduced j f) (t j - suc k) ≡ width j (merged j f (suc k)) (t j - suc k)
       unfolding width

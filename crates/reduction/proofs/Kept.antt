@@ -18,7 +18,7 @@ use Rattle.reduction.specs.Columns.{entry, same, numberIn, firsts}
 use Rattle.reduction.specs.Compatible.{opposite, compatible}
 use Rattle.reduction.specs.Cover.{cover}
 use Rattle.reduction.specs.Merge.{graph, merge}
-use Rattle.reduction.proofs.Numbers.{same-entry, entry-same, same-sym, first-below, firsts-rise, first-smallest, number-below, number-same, number-equal, width-positive, firsts-ext, numberIn-ext}
+use Rattle.reduction.proofs.Numbers.{same-entry, entry-same, same-sym, first-below, firsts-rise, first-smallest, number-below, number-same, number-equal, width-positive}
 use Rattle.reduction.proofs.Agree.{compatible-entry, incompatible-at}
 use Rattle.reduction.proofs.Cliques.{cover-clique, cover-maximal}
 use Rattle.reduction.proofs.Merged.{opposite-bits, graph-sym, merge-upper, merge-keeps, merge-joins, merge-parts}
@@ -141,18 +141,11 @@ module _ (n m a b a′ b′ : ℕ) (f : List ℕ) (ha′ : a′ ≤ a) (ha : a �
     settled-kept p q hp hq =
         either (settled p q hp hq) (λ e. inl (same-kept p q hp hq e)) (λ e. inr (incompatible-kept p q hp hq e))
 
-    same-still : (p q : ℕ) → p < 2 ^ (n - a) → q < 2 ^ (n - a) → same n a b after p q ≡ same n a b f p q
+    pub same-still : (p q : ℕ) → p < 2 ^ (n - a) → q < 2 ^ (n - a) → same n a b (merge n m a′ b′ f) p q ≡ same n a b f p q
     same-still p q hp hq =
         either (settled p q hp hq) (λ e. same-kept p q hp hq e ∙ sym e)
         (λ e.
         incompatible-differ n a b after p q (incompatible-kept p q hp hq e) ∙ sym (incompatible-differ n a b f p q e))
-
-    pub widths-kept : firsts n a b (merge n m a′ b′ f) ≡ firsts n a b f
-    widths-kept = firsts-ext n a b after f same-still
-
-    pub numbers-kept : (p : ℕ) → p < 2 ^ (n - a)
-        → numberIn n a b (merge n m a′ b′ f) (firsts n a b (merge n m a′ b′ f)) p ≡ numberIn n a b f (firsts n a b f) p
-    numbers-kept = numberIn-ext n a b after f same-still
 
 -- a table in which columns that are equal in f are equal has not more columns than f
 module _ (n a b : ℕ) (f g : List ℕ) (joins : (p q : ℕ) → p < 2 ^ (n - a) → q < 2 ^ (n - a) → same n a b f p q ≡ true → same n a b g p q ≡ true) where

@@ -16,6 +16,7 @@ pub mod Final
 pub mod Refined
 pub mod Nodes
 pub mod Children
+pub mod Stages
 pub mod Descents
 pub mod Walks
 pub mod Examples
