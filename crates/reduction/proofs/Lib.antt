@@ -6,6 +6,10 @@ pub mod Agree
 pub mod Rounds
 pub mod Alike
 pub mod Cliques
+pub mod Keys
+pub mod Fewest
+pub mod Running
+pub mod Turns
 pub mod Merged
 pub mod Kept
 pub mod Candidates

@@ -3,6 +3,7 @@ pub mod Numbering
 pub mod Columns
 pub mod Compatible
 pub mod Cover
+pub mod Keys
 pub mod Merge
 pub mod Diagram
 pub mod Walk

@@ -1,5 +1,6 @@
 // The reduction layer: columns, compatibility, cover, merging, the diagram and walks over it. So far its definitions (specs/).
 mod casts;
+mod cover;
 mod packed;
 
 // A node of the diagram: its height, its child for 0 and its child for 1. Child 0 is constant 0, child 1 constant 1; node 2 stands first.
