@@ -3,12 +3,14 @@
 use mathlib.Core.Path.{_≡_, refl, sym, _∙_, ap, ap₂}
 use mathlib.Core.Bool.{Bool, true, false, _&&_, _||_}
 use Prim.Native.Nat.{ℕ, zero, suc, _+_, _-_, _*_, _/_, _%_, _^_, _<_, _≤_}
-use native.Mathlib.Nat.{mod-lt, add-zero, div-add-mod', div-one, zero-div, pow-suc, div-eq-of-lt, div-lt-iff-lt-mul}
+use native.Mathlib.Nat.{mod-lt, add-zero, div-add-mod', div-one, zero-div, pow-suc, div-eq-of-lt, div-lt-iff-lt-mul, one-mul}
 use native.Mathlib.Omega.{arith}
-use lib.Dec.{eqb}
+use lib.Dec.{eqb, ltb}
 use lib.Bits.{block-half, block-odd, bitAnd, bitOr, and-shr, or-shr, and-mod, or-mod}
-use lib.Pow.{pow-pos, shr-shr, pow-mono, high}
+use lib.Pow.{pow-pos, shr-shr, pow-mono, high, split, shl-lt}
+use borrow.Author.Tests.{lt-ltb, le-ltb, eq-eqb, ne-eqb}
 use Rattle.laws.specs.Bits.{bit, has, flag}
+use Rattle.laws.proofs.Cases.{by-less, by-equal}
 
 pub bit-lt : (w i : ℕ) → bit w i < 2
 bit-lt w i = mod-lt (w / 2 ^ i) (omega arith)
@@ -107,3 +109,56 @@ cleared-bit x c q h =
     ap (bit (p * 2 ^ c)) (sym e) ∙ ap (λ (z : ℕ). bit z (c + (q - c))) (sym (add-zero (p * 2 ^ c)))
     ∙ bit-high p c 0 (q - c) (pow-pos c) ∙ sym (bit-high p c (x % 2 ^ c) (q - c) (mod-lt x (pow-pos c)))
     ∙ ap (λ (z : ℕ). bit z (c + (q - c))) (div-add-mod' x (2 ^ c)) ∙ ap (bit x) e
+
+-- the bits of the s lowest, and of those from s on
+pub has-low : (x s r : ℕ) → has (x % 2 ^ s) r ≡ (ltb r s && has x r)
+has-low x s r =
+    let small = mod-lt x (pow-pos s) in
+    by-less r s
+    (λ l.
+    ap (λ (b : ℕ). eqb b 1) (sym (bit-low (x / 2 ^ s) s (x % 2 ^ s) r small l) ∙ ap (λ (y : ℕ). bit y r) (split x s))
+    ∙ sym (ap (λ (t : Bool). t && has x r) (lt-ltb r s l)))
+    (λ l. ap (λ (b : ℕ). eqb b 1) (bit-past (x % 2 ^ s) s r small l) ∙ sym (ap (λ (t : Bool). t && has x r) (le-ltb r s l)))
+
+pub has-high : (x s r : ℕ) → has (x / 2 ^ s) r ≡ has x (s + r)
+has-high x s r = ap (λ (y : ℕ). eqb (y % 2) 1) (shr-shr x s r)
+
+-- the bits of a number put q places up
+pub has-moved : (p q r : ℕ) → has (p * 2 ^ q) (q + r) ≡ has p r
+has-moved p q r =
+    ap (λ (x : ℕ). has x (q + r)) (sym (add-zero (p * 2 ^ q))) ∙ ap (λ (b : ℕ). eqb b 1) (bit-high p q 0 r (pow-pos q))
+
+pub has-unmoved : (p q r : ℕ) → r < q → has (p * 2 ^ q) r ≡ false
+has-unmoved p q r l =
+    ap (λ (x : ℕ). has x r) (sym (add-zero (p * 2 ^ q))) ∙ ap (λ (b : ℕ). eqb b 1) (bit-low p q 0 r (pow-pos q) l ∙ bit-zero r)
+
+pub has-past : (w k i : ℕ) → w < 2 ^ k → k ≤ i → has w i ≡ false
+has-past w k i h l = ap (λ (b : ℕ). eqb b 1) (bit-past w k i h l)
+
+pub has-power : (q k : ℕ) → has (2 ^ q) k ≡ eqb q k
+has-power q k =
+    let one = ap (λ (x : ℕ). has x k) (sym (one-mul (2 ^ q))) in
+    by-less k q (λ l. one ∙ has-unmoved 1 q k l ∙ sym (ne-eqb q k (λ e. absurd (omega arith))))
+    (λ l.
+    let e : q + (k - q) ≡ k = omega arith in
+    let moved = one ∙ ap (has (1 * 2 ^ q)) (sym e) ∙ has-moved 1 q (k - q) in
+    by-equal q k
+    (λ s. let z : k - q ≡ 0 = omega arith in moved ∙ ap (has 1) z ∙ sym (eq-eqb q k s))
+    (λ n. moved ∙ has-past 1 1 (k - q) (omega arith) (omega arith) ∙ sym (ne-eqb q k n)))
+
+-- line k of place j of a byte put at place q
+pub has-byte : (p q j k : ℕ) → p < 256 → k < 8 → has (p * 2 ^ (q * 8)) (j * 8 + k) ≡ (eqb q j && has p k)
+has-byte p q j k hp hk =
+    by-less j q
+    (λ l.
+    has-unmoved p (q * 8) (j * 8 + k) (omega arith)
+    ∙ sym (ap (λ (t : Bool). t && has p k) (ne-eqb q j (λ e. absurd (omega arith)))))
+    (λ l.
+    by-equal q j
+    (λ e.
+    let at : j * 8 + k ≡ q * 8 + k = omega arith in
+    ap (has (p * 2 ^ (q * 8))) at ∙ has-moved p (q * 8) k ∙ sym (ap (λ (t : Bool). t && has p k) (eq-eqb q j e)))
+    (λ n.
+    let past : 8 + q * 8 ≤ j * 8 + k = omega arith in
+    has-past (p * 2 ^ (q * 8)) (8 + q * 8) (j * 8 + k) (shl-lt 8 (q * 8) hp) past
+    ∙ sym (ap (λ (t : Bool). t && has p k) (ne-eqb q j n))))

@@ -107,6 +107,27 @@ module _ {A : Type 0} (f : ℕ → A) (b : ℕ) where
   getD-unputAt (suc n) l d i h =
       getD-set-other (putsAt b n f l) (b + n) i (f n) d (λ e. absurd (omega arith)) ∙ getD-unputAt n l d i (omega arith)
 
+  pub length-putsAt : (n : ℕ) (l : List A) → length (putsAt b n f l) ≡ length l
+  unfolding puts putsAt
+  length-putsAt zero l = refl
+  length-putsAt (suc n) l = length-set (putsAt b n f l) (b + n) (f n) ∙ length-putsAt n l
+
+  pub getD-beforeAt : (n : ℕ) (l : List A) (d : A) (i : ℕ) → i < b → getD (putsAt b n f l) i d ≡ getD l i d
+  unfolding puts putsAt
+  getD-beforeAt zero l d i h = refl
+  getD-beforeAt (suc n) l d i h =
+      getD-set-other (putsAt b n f l) (b + n) i (f n) d (λ e. absurd (omega arith)) ∙ getD-beforeAt n l d i h
+
+  pub getD-putsAt : (n : ℕ) (l : List A) (d : A) (i : ℕ) → i < n → b + i < length l → getD (putsAt b n f l) (b + i) d ≡ f i
+  unfolding puts putsAt
+  getD-putsAt zero l d i h k = absurd (not-suc-le-zero h)
+  getD-putsAt (suc n) l d i h k =
+      last-or-below i n h
+      (λ e.
+      let k′ : b + n < length (putsAt b n f l) = omega (arith, length-putsAt n l) in
+      ap (λ (j : ℕ). getD (putsAt b (suc n) f l) (b + j) d) e ∙ getD-set-same (putsAt b n f l) (b + n) (f n) d k′ ∙ ap f (sym e))
+      (λ m. getD-set-other (putsAt b n f l) (b + n) (b + i) (f n) d (λ e. absurd (omega arith)) ∙ getD-putsAt n l d i m k)
+
 -- `lib.Seq.sets` in two parts, and of elements given by a function; lines of a rectangle
 pub sets-append : {A : Type 0} (a b l : List A) (i : ℕ) → sets l i (a ++ b) ≡ sets (sets l i a) (i + length a) b
 sets-append [] b l i = ap (λ (k : ℕ). sets l k b) (sym (add-zero i))

@@ -6,8 +6,10 @@ use Prim.Native.Nat.{ℕ, zero, suc, _+_, _<_, _≤_}
 use native.Mathlib.Nat.{not-suc-le-zero}
 use native.Mathlib.Numerals.{add-one}
 use native.Mathlib.Omega.{arith}
+use lib.Dec.{eqb, ltb}
+use borrow.Author.Tests.{eqb-true, eq-eqb, ltb-true, lt-ltb}
 use Rattle.laws.specs.Tests.{every, any}
-use Rattle.laws.proofs.Cases.{by-test, last-or-below, and-split}
+use Rattle.laws.proofs.Cases.{by-test, last-or-below, and-split, and-join, same-test}
 
 module _ (f : ℕ → Bool) where
   pub every-next : (i : ℕ) → every (i + 1) f ≡ (every i f && f i)
@@ -86,3 +88,20 @@ de-morgan false b = refl
 pub not-any : (f : ℕ → Bool) (n : ℕ) → not (any n f) ≡ every n (λ i. not (f i))
 not-any f zero = refl
 not-any f (suc n) = de-morgan (any n f) (f n) ∙ ap (λ (b : Bool). b && not (f n)) (not-any f n)
+
+-- a test at one number; a test beside one that does not vary
+pub any-one : (p : ℕ → Bool) (k n : ℕ) → any n (λ q. eqb q k && p q) ≡ (ltb k n && p k)
+any-one p k n =
+    same-test (any n (λ q. eqb q k && p q)) (ltb k n && p k)
+    (λ e.
+    let (i, l, h) = any-at (λ q. eqb q k && p q) n e in
+    let (s, t) = and-split (eqb i k) (p i) h in
+    let same = eqb-true i k s in
+    and-join (lt-ltb k n (omega arith)) (ap p (sym same) ∙ t))
+    (λ e.
+    let (l, t) = and-split (ltb k n) (p k) e in
+    any-of (λ q. eqb q k && p q) n k (ltb-true k n l) (and-join (eq-eqb k k refl) t))
+
+pub any-beside : (b : Bool) (f : ℕ → Bool) (n : ℕ) → any n (λ i. b && f i) ≡ (b && any n f)
+any-beside true f n = refl
+any-beside false f n = any-none (λ i. false) n (λ i l. refl)

@@ -2,6 +2,8 @@
 pub mod Numbering
 pub mod Numbers
 pub mod Planes
+pub mod PlanesMade
+pub mod PlanesHalved
 pub mod Agree
 pub mod Rounds
 pub mod Alike

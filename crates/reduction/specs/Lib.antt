@@ -11,4 +11,5 @@ pub mod Compare
 pub mod Descent
 pub mod Packed
 pub mod Distinct
+pub mod Lowering
 pub mod Opened

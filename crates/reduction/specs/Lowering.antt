@@ -1,0 +1,57 @@
+-- One height further down as the code goes: from the planes zs and os of w packed columns the columns below, their cliques and products.
+-- a inputs and b outputs stand below, and a column below has size words.
+-- Assumes nothing.
+use Prim.Native.Nat.{ℕ, _*_}
+use mathlib.Core.Bool.{Bool, cond}
+use mathlib.Core.List.{List}
+use lib.ListN.{length, replicate}
+use lib.Seq.{sets}
+use Rattle.laws.specs.Lists.{rect, puts}
+use Rattle.laws.specs.Bits.{flag}
+use Rattle.reduction.specs.Numbering.{indexIn, firstsOf}
+use Rattle.reduction.specs.Cover.{cover}
+use Rattle.reduction.specs.Packed.{candidatesOf, addedColumns}
+use Rattle.reduction.specs.Distinct.{sameWords, linkedWords, sameOwner}
+
+-- the cliques of the different columns ps of the planes
+module _ (size : ℕ) (zs os ps : List ℕ) where
+  unfoldable pub linkFlags : List ℕ
+  linkFlags = rect (length ps) (length ps) (λ c d. flag (linkedWords zs os size ps c d))
+
+  unfoldable pub owners : List ℕ
+  owners = cover (length ps) linkFlags
+
+  -- the cliques' first columns, and the number of each column's clique
+  unfoldable pub cliqueFirsts : List ℕ
+  cliqueFirsts = firstsOf (sameOwner owners) (length ps)
+
+  unfoldable pub cliqueOf : ℕ → ℕ
+  cliqueOf c = indexIn (sameOwner owners) cliqueFirsts c
+
+module _ (input : Bool) (a b size w : ℕ) (zs os : List ℕ) where
+  -- how many columns below are looked at, and their planes
+  unfoldable pub candidateCount : ℕ
+  candidateCount = cond input (w * 2) w
+
+  unfoldable pub planeBelow : List ℕ → List ℕ
+  planeBelow from = candidatesOf input a b size w from (replicate 1024 0)
+
+  -- the different ones
+  unfoldable pub firstsBelow : List ℕ
+  firstsBelow = firstsOf (sameWords (planeBelow zs) (planeBelow os) size) candidateCount
+
+  unfoldable pub cliquesBelow : List ℕ
+  cliquesBelow = cliqueFirsts size (planeBelow zs) (planeBelow os) firstsBelow
+
+  -- the number below of candidate q
+  unfoldable pub numberBelow : ℕ → ℕ
+  numberBelow q =
+      cliqueOf size (planeBelow zs) (planeBelow os) firstsBelow
+      (indexIn (sameWords (planeBelow zs) (planeBelow os) size) firstsBelow q)
+
+  -- the plane of the products, made of the plane from and written over the list old
+  unfoldable pub productBelow : List ℕ → List ℕ → List ℕ
+  productBelow from old =
+      addedColumns size (sets (replicate 512 0) 0 firstsBelow)
+      (puts (length firstsBelow) (cliqueOf size (planeBelow zs) (planeBelow os) firstsBelow) (replicate 512 0))
+      (planeBelow from) (length firstsBelow) (puts 1024 (λ i. 0) old)
