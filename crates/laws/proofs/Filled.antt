@@ -132,9 +132,11 @@ getD-written-next g l b i d h =
     let e : b + length (tab i g) + 0 ≡ b + i = omega (arith, length-tab g i) in
     ap (λ (k : ℕ). getD (written l b (tab i g)) k d) (sym e) ∙ getD-after l b (tab i g) (omega (arith, length-tab g i)) d 0 ∙ ap (λ (k : ℕ). getD l k d) e
 
--- a list stored into zeros
+-- a list stored at the front of one that is long enough; into zeros
+pub getD-sets : (l vs : List ℕ) (i d : ℕ) → length vs ≤ length l → i < length vs → getD (sets l 0 vs) i d ≡ getD vs i d
+getD-sets l vs i d h b =
+    let fits : 0 + length vs ≤ length l = omega arith in
+    ap₂ (λ (a : List ℕ) (k : ℕ). getD a k d) (sym (written-sets l 0 vs fits)) (sym (zero-add i)) ∙ getD-written l 0 vs fits d i b
+
 pub laid : (size : ℕ) (l : List ℕ) (i : ℕ) → length l ≤ size → i < length l → getD (sets (replicate size 0) 0 l) i 0 ≡ getD l i 0
-laid size l i h b =
-    let fits : 0 + length l ≤ length (replicate {A = ℕ} size 0) = omega (arith, length-replicate {A = ℕ} size 0) in
-    ap₂ (λ (a : List ℕ) (k : ℕ). getD a k 0) (sym (written-sets (replicate size 0) 0 l fits)) (sym (zero-add i))
-    ∙ getD-written (replicate size 0) 0 l fits 0 i b
+laid size l i h b = getD-sets (replicate size 0) l i 0 (omega (arith, length-replicate {A = ℕ} size 0)) b

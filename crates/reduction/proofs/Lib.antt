@@ -17,6 +17,7 @@ pub mod Kept
 pub mod Candidates
 pub mod Lowered
 pub mod Products
+pub mod Grouped
 pub mod Ruled
 pub mod Final
 pub mod Refined
