@@ -21,8 +21,8 @@ use Rattle.sheet.specs.Refusals.{notEachOnce}
 use Rattle.sheet.proofs.Good.{order-length}
 use Rattle.sheet.proofs.Orders.{ins-rise, outs-rise}
 use Rattle.sheet.proofs.Below.{insBelow}
-use Rattle.reduction.specs.Columns.{entry}
-use Rattle.reduction.specs.Diagram.{topValue}
+use Rattle.reduction.specs.Columns.{entry, layers}
+use Rattle.reduction.specs.Diagram.{topValue, nodes}
 use Rattle.reduction.specs.Walk.{lowOf, highOf}
 use Rattle.reduction.specs.Descent.{Reached, reached, descend, descent}
 use Rattle.reduction.proofs.Kept.{deeper}
@@ -38,7 +38,7 @@ appended : (o b d s : ℕ) → (o * 2 + b) * 2 ^ d + s ≡ o * 2 ^ suc d + (s + 
 appended o b d s = rw (pow-suc 2 d) (omega arith)
 
 module _ (j : Job) (once : notEachOnce (j .n) (j .m) (j .order) ≡ false) (few : j .n ≤ 12) (out : j .m ≤ 8) (f : List ℕ)
-    (r : Ruled (j .n) (j .m) (insBelow (t j) (j .order)) f) (bottom : ℕ) where
+    (r : Ruled (j .n) (j .m) (insBelow (t j) (j .order)) f) (fits : length (nodes j f (layers j f)) ≤ 10240) (bottom : ℕ) where
   -- inputs and outputs from height h down to bottom
   abbrev span : ℕ → ℕ
   span h = ins j h - ins j bottom
@@ -117,7 +117,7 @@ module _ (j : Job) (once : notEachOnce (j .n) (j .m) (j .order) ≡ false) (few 
           let z : j .n - ins j g ≡ 1 + (j .n - ins j (suc g)) = omega (arith, ins-input j g i, ins-below j once few out (suc g) l) in
           ap (λ (e : ℕ). 2 ^ e) z ∙ pow-add 2 1 (j .n - ins j (suc g)) in
           ap (λ (c : ℕ). descend (wordsOf j f) (j .order) bottom k (cond (has x c) (highOf (wordsOf j f) v) (lowOf (wordsOf j f) v)) x c o) up
-          ∙ ap (λ (u : ℕ). descend (wordsOf j f) (j .order) bottom k u x (span g) o) (input-child j once few out f g l p hp i b (bit-lt x (span g)))
+          ∙ ap (λ (u : ℕ). descend (wordsOf j f) (j .order) bottom k u x (span g) o) (input-child j once few out f g l p hp fits i b (bit-lt x (span g)))
           ∙ down (p * 2 + b) o (omega (arith, wider, bit-lt x (span g)))
           ∙ ended-input i o
 
@@ -129,8 +129,8 @@ module _ (j : Job) (once : notEachOnce (j .n) (j .m) (j .order) ≡ false) (few 
       step-output i o =
           let v = nodeFor j f (suc g) p in
           let next = nodeFor j f g p in
-          let low-is = output-low j once few out f g l p hp i in
-          let high-is = output-high j once few out f g l p hp i in
+          let low-is = output-low j once few out f g l p hp fits i in
+          let high-is = output-high j once few out f g l p hp fits i in
           let same : span (suc g) ≡ span g = ap (λ (a : ℕ). a - ins j bottom) (ins-output j g i) in
           let hp′ : p < 2 ^ (j .n - ins j g) = rw (ins-output j g i) at hp in
           let on : (o′ : ℕ) → descend (wordsOf j f) (j .order) bottom k next x (span (suc g)) o′ ≡ ended g p x o′ =

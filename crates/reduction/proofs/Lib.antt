@@ -24,6 +24,10 @@ pub mod Refined
 pub mod Nodes
 pub mod Children
 pub mod Stages
+pub mod WordWalks
 pub mod Descents
-pub mod Walks
+pub mod Steps
+pub mod DescentSteps
+pub mod Halves
+pub mod Compared
 pub mod Examples

@@ -8,7 +8,7 @@ use Prim.Native.Nat.{ℕ, zero, suc, _+_, _-_, _*_, _/_, _^_, _<_, _≤_}
 use native.Mathlib.Omega.{arith}
 use borrow.Author.Tests.{le-ltb, ltb-false, leb-true, ne-eqb, not-true, not-false}
 use lib.Dec.{eqb, ltb, leb}
-use lib.ListN.{getD}
+use lib.ListN.{length, getD}
 use lib.Pow.{shr-shr, shr-lt}
 use Rattle.laws.specs.Tests.{every, within}
 use Rattle.laws.specs.Bits.{bit, has, flag}
@@ -28,12 +28,13 @@ use Rattle.sheet.proofs.Made.{table-entry, table-below}
 use Rattle.sheet.proofs.Least.{readable}
 use Rattle.sheet.proofs.Chi.{chi-allows}
 use Rattle.sheet.proofs.Below.{insBelow}
-use Rattle.reduction.specs.Merge.{reduced}
-use Rattle.reduction.specs.Diagram.{topValue}
+use Rattle.reduction.specs.Columns.{layers}
+use Rattle.reduction.specs.Merge.{reduced, refuse7}
+use Rattle.reduction.specs.Diagram.{topValue, nodes}
 use Rattle.reduction.specs.Walk.{lowOf, highOf, child, walk}
 use Rattle.reduction.proofs.Ruled.{Ruled}
 use Rattle.reduction.proofs.Final.{merged-below}
-use Rattle.reduction.proofs.Refined.{sheet-ruled, reduced-ruled, reduced-refines}
+use Rattle.reduction.proofs.Refined.{sheet-ruled, reduced-ruled, reduced-refines, nodes-fit}
 use Rattle.reduction.proofs.Children.{wordsOf, nodeFor, ins-input, ins-output, outs-output, node-bottom, node-from, node-positive, node-top, ins-below, outs-below, input-child, output-low, output-high, top-value}
 
 -- bits holds, at the heights of the inputs, the inputs that are the number x read down the order
@@ -77,7 +78,8 @@ walk-zero ws bits zero = refl
 walk-zero ws bits (suc h) = refl
 
 module _ (j : Job) (once : notEachOnce (j .n) (j .m) (j .order) ≡ false) (few : j .n ≤ 12) (out : j .m ≤ 8) (f : List ℕ)
-    (r : Ruled (j .n) (j .m) (insBelow (t j) (j .order)) f) (small : (i : ℕ) → getD f i 0 < 3) (x : ℕ) (hx : x < 2 ^ j .n) where
+    (r : Ruled (j .n) (j .m) (insBelow (t j) (j .order)) f) (small : (i : ℕ) → getD f i 0 < 3)
+    (fits : length (nodes j f (layers j f)) ≤ 10240) (x : ℕ) (hx : x < 2 ^ j .n) where
   -- the prefix of x at height h
   abbrev prefix : ℕ → ℕ
   prefix h = x / 2 ^ ins j h
@@ -99,7 +101,7 @@ module _ (j : Job) (once : notEachOnce (j .n) (j .m) (j .order) ≡ false) (few 
           → child (wordsOf j f) bits h (nodeFor j f (suc h) (x / 2 ^ ins j (suc h))) ≡ nodeFor j f h (x / 2 ^ ins j h)
       unfolding child
       step-input bits c =
-          input-child j once few out f h l (prefix (suc h)) (prefix-below (suc h) l) i (bit bits h) (bit-lt bits h)
+          input-child j once few out f h l (prefix (suc h)) (prefix-below (suc h) l) fits i (bit bits h) (bit-lt bits h)
           ∙ ap (λ (b : ℕ). nodeFor j f h (prefix (suc h) * 2 + b)) (c h l i) ∙ ap (nodeFor j f h) prefix-input
 
     module _ (i : isInput (varAt j (suc h)) ≡ false) where
@@ -111,12 +113,12 @@ module _ (j : Job) (once : notEachOnce (j .n) (j .m) (j .order) ≡ false) (few 
 
       low-is : lowOf (wordsOf j f) (nodeFor j f (suc h) (prefix (suc h))) ≡ cond (eqb (valueAt j f x h) 1) 0 (nodeFor j f h (prefix h))
       low-is =
-          output-low j once few out f h l (prefix (suc h)) (prefix-below (suc h) l) i
+          output-low j once few out f h l (prefix (suc h)) (prefix-below (suc h) l) fits i
           ∙ ap₂ (λ (v p : ℕ). cond (eqb v 1) 0 (nodeFor j f h p)) top-is prefix-output
 
       high-is : highOf (wordsOf j f) (nodeFor j f (suc h) (prefix (suc h))) ≡ cond (eqb (valueAt j f x h) 0) 0 (nodeFor j f h (prefix h))
       high-is =
-          output-high j once few out f h l (prefix (suc h)) (prefix-below (suc h) l) i
+          output-high j once few out f h l (prefix (suc h)) (prefix-below (suc h) l) fits i
           ∙ ap₂ (λ (v p : ℕ). cond (eqb v 0) 0 (nodeFor j f h p)) top-is prefix-output
 
       -- the values met are those of the table
@@ -222,13 +224,14 @@ module _ (j : Job) (once : notEachOnce (j .n) (j .m) (j .order) ≡ false) (few 
       (λ i. same g l i ∙ every-at line (j .m) e (outs j g) (omega (arith, outs-output j g i, outs-below j once few out (suc g) l)))))
 
   -- the whole walk, from node 2, ends at 1 exactly when each output's bit is allowed
-  pub walk-whole : (f : List ℕ) → Ruled (j .n) (j .m) (insBelow (t j) (j .order)) f → ((i : ℕ) → getD f i 0 < 3) → 1 ≤ t j
+  pub walk-whole : (f : List ℕ) → Ruled (j .n) (j .m) (insBelow (t j) (j .order)) f → ((i : ℕ) → getD f i 0 < 3)
+      → length (nodes j f (layers j f)) ≤ 10240 → 1 ≤ t j
       → (x y bits : ℕ) → x < 2 ^ j .n → Carries j x bits → CarriesOutputs j y bits
       → walk (wordsOf j f) bits (t j) 2 ≡ flag (every (j .m) (λ k. allows (getD f (k * 2 ^ j .n + x) 0) (bit y (getD (outputList j) k 0))))
-  walk-whole f r small some x y bits hx c d =
+  walk-whole f r small fits some x y bits hx c d =
       ap (walk (wordsOf j f) bits (t j))
-      (sym (node-top j once few out f (x / 2 ^ ins j (t j)) some (prefix-below j once few out f r small x hx (t j) (omega arith))))
-      ∙ walk-is j once few out f r small x hx bits (t j) c (omega arith) ∙ ap flag (passes-lines f x y bits d)
+      (sym (node-top j once few out f (x / 2 ^ ins j (t j)) some (prefix-below j once few out f r small fits x hx (t j) (omega arith))))
+      ∙ walk-is j once few out f r small fits x hx bits (t j) c (omega arith) ∙ ap flag (passes-lines f x y bits d)
 
   -- the characteristic function, line by line
   chi-lines : (s : List ℕ) (x y : ℕ) → chi (j .m) s (wordOf (inputList j) x) y
@@ -266,17 +269,18 @@ module _ (j : Job) (s : List ℕ) (e : sheetRefusal j s ≡ 0) where
 
   module _ (x y bits : ℕ) (hx : x < 2 ^ j .n) (c : Carries j x bits) (d : CarriesOutputs j y bits) where
     -- over the final diagram: each output's bit is one that the final table allows
-    pub final-walk : walk (wordsOf j (reduced j (table j s))) bits (t j) 2
+    pub final-walk : refuse7 j (table j s) ≡ false → walk (wordsOf j (reduced j (table j s))) bits (t j) 2
         ≡ flag (every (j .m) (λ k. allows (getD (reduced j (table j s)) (k * 2 ^ j .n + x) 0) (bit y (getD (outputList j) k 0))))
-    final-walk =
+    final-walk narrow =
         walk-whole j (accepted .order-whole) (accepted .inputs) (accepted .outputs) (reduced j (table j s)) (reduced-ruled j s e) reduced-below
-        some-variable x y bits hx c d
+        (nodes-fit j s e narrow) some-variable x y bits hx c d
 
-    -- over the diagram of the sheet's own table: the walk and the characteristic function agree
-    pub sheet-walk : walk (wordsOf j (table j s)) bits (t j) 2 ≡ flag (chi (j .m) s (wordOf (inputList j) x) y)
-    sheet-walk =
+    -- over the diagram of the sheet's own table, where it is not too large: the walk and the characteristic function agree
+    pub sheet-walk : length (nodes j (table j s) (layers j (table j s))) ≤ 10240
+        → walk (wordsOf j (table j s)) bits (t j) 2 ≡ flag (chi (j .m) s (wordOf (inputList j) x) y)
+    sheet-walk fits =
         walk-whole j (accepted .order-whole) (accepted .inputs) (accepted .outputs) (table j s) (sheet-ruled j s e)
-        (table-below (j .n) (j .m) (j .order) s) some-variable x y bits hx c d
+        (table-below (j .n) (j .m) (j .order) s) fits some-variable x y bits hx c d
         ∙ ap flag
         (every-ext (λ k. allows (getD (table j s) (k * 2 ^ j .n + x) 0) (bit y (getD (outputList j) k 0)))
         (λ k. allows (tableAt (j .n) (j .m) (j .order) s k x) (bit y (getD (outputList j) k 0))) (j .m)
@@ -284,12 +288,13 @@ module _ (j : Job) (s : List ℕ) (e : sheetRefusal j s ≡ 0) where
         ∙ sym (chi-lines j (accepted .order-whole) (accepted .inputs) (accepted .outputs) s x y))
 
     -- what the final diagram lets through satisfies the characteristic function
-    pub final-chi : walk (wordsOf j (reduced j (table j s))) bits (t j) 2 ≡ 1 → chi (j .m) s (wordOf (inputList j) x) y ≡ true
-    final-chi ends =
+    pub final-chi : refuse7 j (table j s) ≡ false → walk (wordsOf j (reduced j (table j s))) bits (t j) 2 ≡ 1
+        → chi (j .m) s (wordOf (inputList j) x) y ≡ true
+    final-chi narrow ends =
         let f = reduced j (table j s) in
         let bitOf : ℕ → ℕ = λ k. bit y (getD (outputList j) k 0) in
         let all : every (j .m) (λ k. allows (getD f (k * 2 ^ j .n + x) 0) (bitOf k)) ≡ true =
-        sym (flag-is (every (j .m) (λ k. allows (getD f (k * 2 ^ j .n + x) 0) (bitOf k)))) ∙ ap (λ (v : ℕ). eqb v 1) (sym final-walk ∙ ends) in
+        sym (flag-is (every (j .m) (λ k. allows (getD f (k * 2 ^ j .n + x) 0) (bitOf k)))) ∙ ap (λ (v : ℕ). eqb v 1) (sym (final-walk narrow) ∙ ends) in
         chi-lines j (accepted .order-whole) (accepted .inputs) (accepted .outputs) s x y
         ∙ every-of (λ k. allows (tableAt (j .n) (j .m) (j .order) s k x) (bitOf k)) (j .m) (λ k hk.
         let v = tableAt (j .n) (j .m) (j .order) s k x in
