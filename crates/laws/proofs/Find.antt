@@ -1,13 +1,13 @@
 -- Laws of `find` and `least`.
 -- Assumes nothing.
 use mathlib.Core.Path.{_≡_, refl, sym, _∙_, ap}
-use mathlib.Core.Bool.{Bool, true, false}
+use mathlib.Core.Bool.{Bool, true, false, false≢true}
 use Prim.Native.Nat.{ℕ, zero, suc, _+_, _-_, _<_, _≤_}
 use native.Mathlib.Nat.{lt-irrefl, add-zero}
 use native.Mathlib.Numerals.{add-one}
 use native.Mathlib.Omega.{arith}
 use Rattle.laws.specs.Tests.{find, least}
-use Rattle.laws.proofs.Cases.{by-test, cond-both, last-or-below}
+use Rattle.laws.proofs.Cases.{by-test, by-less, cond-both, last-or-below}
 
 sub-suc-of : (n j : ℕ) → j < n → n - j ≡ suc (n - suc j)
 sub-suc-of n j h = omega arith
@@ -75,3 +75,13 @@ find-ext p q (suc n) j h =
     let e : p j ≡ q j = h j (omega arith) (omega arith) in
     let r : find p n (suc j) ≡ find q n (suc j) = find-ext p q n (suc j) (λ i l k. h i (omega arith) (omega arith)) in
     rw (e, r)
+
+-- the one number before which the test never holds and at which it does
+pub least-is : (p : ℕ → Bool) (n i : ℕ) → i ≤ n → ((j : ℕ) → j < i → p j ≡ false) → (i < n → p i ≡ true) → least n p ≡ i
+least-is p n i h before at =
+    by-less (least n p) i
+    (λ l. absurd (false≢true (sym (before (least n p) l) ∙ least-hit p n (omega arith))))
+    (λ l.
+    by-less i (least n p)
+    (λ k. absurd (false≢true (sym (least-before p n i k) ∙ at (omega (arith, least-le p n)))))
+    (λ k. omega arith))

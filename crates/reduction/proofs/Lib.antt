@@ -18,6 +18,7 @@ pub mod Candidates
 pub mod Lowered
 pub mod Products
 pub mod Grouped
+pub mod HeightStep
 pub mod Ruled
 pub mod Final
 pub mod Refined
@@ -30,4 +31,6 @@ pub mod Steps
 pub mod DescentSteps
 pub mod Halves
 pub mod Compared
+pub mod Owners
+pub mod NodeTable
 pub mod Examples

@@ -40,3 +40,10 @@ pub fn bit_of(k: usize) -> u8
 {
     1 << k
 }
+
+pub fn narrow16(x: usize) -> u16
+    requires { ⌜ x < 65536 ⌝ }
+    ensures { λ r. ⌜ r ≡ x ⌝ }
+{
+    x as u16
+}

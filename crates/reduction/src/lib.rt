@@ -1,6 +1,8 @@
 // The reduction layer: columns, compatibility, cover, merging, the diagram and walks over it.
 mod casts;
 mod cover;
+mod merging;
+mod node_words;
 mod packed;
 mod walks;
 
