@@ -50,10 +50,7 @@ agree-sym zs os s p q =
     let zq = getD zs (q * s + i) 0 in
     ap (λ (x : ℕ). eqb x 0) (or-comm (bitAnd zp oq) (bitAnd op zq) ∙ ap₂ bitOr (and-comm op zq) (and-comm zp oq)))
 
-module _ (size : ℕ) (zs os ps : List ℕ) (few : length ps ≤ 512) where
-  abbrev w : ℕ
-  w = length ps
-
+module _ (size : ℕ) (zs os : List ℕ) (w : ℕ) (ps : List ℕ) (few : w ≤ 512) where
   abbrev linked : ℕ → ℕ → Bool
   linked = linkedWords zs os size ps
 
@@ -61,13 +58,13 @@ module _ (size : ℕ) (zs os ps : List ℕ) (few : length ps ≤ 512) where
   unfolding linkedWords
   linked-sym c d = ap₂ (λ (x y : Bool). not x && y) (equal-sym c d) (agree-sym zs os size (getD ps c 0) (getD ps d 0))
 
-  flags-at : (c d : ℕ) → c < w → d < w → isIn (linkFlags size zs os ps) (c * w + d) ≡ linked c d
+  flags-at : (c d : ℕ) → c < w → d < w → isIn (linkFlags size zs os w ps) (c * w + d) ≡ linked c d
   unfolding linkFlags
   flags-at c d hc hd =
       ap (λ (v : ℕ). eqb v 1) (getD-rect w (λ c d. flag (linked c d)) 0 w c d hc hd) ∙ flag-is (linked c d)
 
   -- the flags, written to the front of a list that is long enough
-  module _ (old link : List ℕ) (len : length old ≡ 262144) (is : link ≡ sets old 0 (rect (length ps) (length ps) (λ c d. flag (linkedWords zs os size ps c d)))) where
+  module _ (old link : List ℕ) (len : length old ≡ 262144) (is : link ≡ sets old 0 (rect w w (λ c d. flag (linkedWords zs os size ps c d)))) where
     link-at : (c d : ℕ) → c < w → d < w → isIn link (c * w + d) ≡ linked c d
     unfolding linkFlags
     link-at c d hc hd =
@@ -79,62 +76,62 @@ module _ (size : ℕ) (zs os ps : List ℕ) (few : length ps ≤ 512) where
         ∙ ap (λ (v : ℕ). eqb v 1) (getD-sets old flags (c * w + d) 0 (omega arith) (omega arith))
         ∙ flags-at c d hc hd
 
-    pub link-mutual : (c d : ℕ) → c < length ps → d < length ps → isIn link (c * length ps + d) ≡ isIn link (d * length ps + c)
+    pub link-mutual : (c d : ℕ) → c < w → d < w → isIn link (c * w + d) ≡ isIn link (d * w + c)
     link-mutual c d hc hd = link-at c d hc hd ∙ linked-sym c d ∙ sym (link-at d c hd hc)
 
-    cover-is : cover w link ≡ owners size zs os ps
+    cover-is : cover w link ≡ owners size zs os w ps
     unfolding owners
     cover-is =
-        cover-alike w link (linkFlags size zs os ps) (λ c d hc hd. ap (λ (x : Bool). not (eqb c d) && x) (link-at c d hc hd ∙ sym (flags-at c d hc hd)))
+        cover-alike w link (linkFlags size zs os w ps) (λ c d hc hd. ap (λ (x : Bool). not (eqb c d) && x) (link-at c d hc hd ∙ sym (flags-at c d hc hd)))
 
-    pub cover-owner : (c : ℕ) → c < length ps → getD (puts (length ps) (λ c. getD (cover (length ps) link) c 0) (replicate 512 0)) c 0 ≡ getD (owners size zs os ps) c 0
+    pub cover-owner : (c : ℕ) → c < w → getD (puts w (λ c. getD (cover w link) c 0) (replicate 512 0)) c 0 ≡ getD (owners size zs os w ps) c 0
     cover-owner c hc = stored 512 w (λ c. getD (cover w link) c 0) c few hc ∙ ap (λ (l : List ℕ). getD l c 0) cover-is
 
-  pub owner-below : (c : ℕ) → c < length ps → getD (owners size zs os ps) c 0 < 512
+  pub owner-below : (c : ℕ) → c < w → getD (owners size zs os w ps) c 0 < 512
   unfolding owners
-  owner-below c hc = omega (arith, cover-below w (linkFlags size zs os ps) c hc)
+  owner-below c hc = omega (arith, cover-below w (linkFlags size zs os w ps) c hc)
 
-  flags-mutual : (c d : ℕ) → c < w → d < w → isIn (linkFlags size zs os ps) (c * w + d) ≡ isIn (linkFlags size zs os ps) (d * w + c)
+  flags-mutual : (c d : ℕ) → c < w → d < w → isIn (linkFlags size zs os w ps) (c * w + d) ≡ isIn (linkFlags size zs os w ps) (d * w + c)
   flags-mutual c d hc hd = flags-at c d hc hd ∙ linked-sym c d ∙ sym (flags-at d c hd hc)
 
   -- without a link each column is a clique of its own
-  apart-owner : any w (λ c. any w (linked c)) ≡ false → (c d : ℕ) → c < w → d < w → sameOwner (owners size zs os ps) c d ≡ eqb c d
+  apart-owner : any w (λ c. any w (linked c)) ≡ false → (c d : ℕ) → c < w → d < w → sameOwner (owners size zs os w ps) c d ≡ eqb c d
   unfolding sameOwner owners
   apart-owner none c d hc hd =
-      let O = owners size zs os ps in
+      let O = owners size zs os w ps in
       by-equal c d
       (λ e. eq-eqb (getD O c 0) (getD O d 0) (ap (λ (i : ℕ). getD O i 0) e) ∙ sym (eq-eqb c d e))
       (λ e.
       ne-eqb (getD O c 0) (getD O d 0) (λ z.
-      not-both (sym (flags-at c d hc hd) ∙ cover-clique w (linkFlags size zs os ps) flags-mutual c d hc hd e z)
+      not-both (sym (flags-at c d hc hd) ∙ cover-clique w (linkFlags size zs os w ps) flags-mutual c d hc hd e z)
       (any-out (linked c) w (any-out (λ c. any w (linked c)) w none c hc) d hd))
       ∙ sym (ne-eqb c d e))
 
   -- owners that part the columns alike give the same cliques
-  module _ (owner : List ℕ) (alike : (c d : ℕ) → c < length ps → d < length ps → sameOwner owner c d ≡ sameOwner (owners size zs os ps) c d) where
-    firsts-alike : firstsOf (sameOwner owner) w ≡ cliqueFirsts size zs os ps
+  module _ (owner : List ℕ) (alike : (c d : ℕ) → c < w → d < w → sameOwner owner c d ≡ sameOwner (owners size zs os w ps) c d) where
+    firsts-alike : firstsOf (sameOwner owner) w ≡ cliqueFirsts size zs os w ps
     unfolding cliqueFirsts
-    firsts-alike = firstsOf-ext (sameOwner owner) (sameOwner (owners size zs os ps)) w alike (owner-equivalence owner)
+    firsts-alike = firstsOf-ext (sameOwner owner) (sameOwner (owners size zs os w ps)) w alike (owner-equivalence owner)
 
-    pub cliques-count : length (firstsOf (sameOwner owner) (length ps)) ≡ length (cliqueFirsts size zs os ps)
+    pub cliques-count : length (firstsOf (sameOwner owner) w) ≡ length (cliqueFirsts size zs os w ps)
     cliques-count = ap (λ (l : List ℕ). length l) firsts-alike
 
     pub cliques-numbered : (old : List ℕ)
-        → puts (length ps) (λ c. indexIn (sameOwner owner) (firstsOf (sameOwner owner) c) c) old ≡ puts (length ps) (cliqueOf size zs os ps) old
+        → puts w (λ c. indexIn (sameOwner owner) (firstsOf (sameOwner owner) c) c) old ≡ puts w (cliqueOf size zs os w ps) old
     unfolding cliqueOf cliqueFirsts
     cliques-numbered old =
-        puts-ext (λ c. indexIn (sameOwner owner) (firstsOf (sameOwner owner) c) c) (cliqueOf size zs os ps) w old
+        puts-ext (λ c. indexIn (sameOwner owner) (firstsOf (sameOwner owner) c) c) (cliqueOf size zs os w ps) w old
         (λ c hc.
         index-kept (sameOwner owner) (owner-equivalence owner) w c hc
-        ∙ index-ext (sameOwner owner) (sameOwner (owners size zs os ps)) w alike (owner-equivalence owner) c hc)
+        ∙ index-ext (sameOwner owner) (sameOwner (owners size zs os w ps)) w alike (owner-equivalence owner) c hc)
 
-  pub owners-alike : (owner : List ℕ) → ((c : ℕ) → c < length ps → getD owner c 0 ≡ getD (owners size zs os ps) c 0)
-      → (c d : ℕ) → c < length ps → d < length ps → sameOwner owner c d ≡ sameOwner (owners size zs os ps) c d
+  pub owners-alike : (owner : List ℕ) → ((c : ℕ) → c < w → getD owner c 0 ≡ getD (owners size zs os w ps) c 0)
+      → (c d : ℕ) → c < w → d < w → sameOwner owner c d ≡ sameOwner (owners size zs os w ps) c d
   unfolding sameOwner
   owners-alike owner is c d hc hd = ap₂ eqb (is c hc) (is d hd)
 
-  pub apart-alike : any (length ps) (λ c. any (length ps) (linkedWords zs os size ps c)) ≡ false → (c d : ℕ) → c < length ps → d < length ps
-      → sameOwner (puts (length ps) (λ c. c) (replicate 512 0)) c d ≡ sameOwner (owners size zs os ps) c d
+  pub apart-alike : any w (λ c. any w (linkedWords zs os size ps c)) ≡ false → (c d : ℕ) → c < w → d < w
+      → sameOwner (puts w (λ c. c) (replicate 512 0)) c d ≡ sameOwner (owners size zs os w ps) c d
   unfolding sameOwner
   apart-alike none c d hc hd =
       ap₂ eqb (stored 512 w (λ c. c) c few hc) (stored 512 w (λ c. c) d few hd) ∙ sym (apart-owner none c d hc hd)

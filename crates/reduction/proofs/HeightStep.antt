@@ -69,18 +69,18 @@ module _ (n m a b : ℕ) (g : List ℕ) (ha : a ≤ n) (hb : b ≤ m) (few : b �
   unfolding firstsBelow
   below-number = number-named n a b g few small Q name names bz bo zeros ones
 
-  below-owners : owners (size a) bz bo L ≡ owner
+  below-owners : owners (size a) bz bo (length L) L ≡ owner
   unfolding firstsBelow owners linkFlags
   below-owners = cover-named n a b g few small Q name names bz bo zeros ones
 
   abbrev G : List ℕ
   G = firstsOf (sameOwner owner) (length ps)
 
-  below-cliques : cliqueFirsts (size a) bz bo L ≡ G
+  below-cliques : cliqueFirsts (size a) bz bo (length L) L ≡ G
   unfolding cliqueFirsts
   below-cliques = ap₂ (λ (o : List ℕ) (k : ℕ). firstsOf (sameOwner o) k) below-owners (sym below-width)
 
-  below-clique : (c : ℕ) → cliqueOf (size a) bz bo L c ≡ indexIn (sameOwner owner) G c
+  below-clique : (c : ℕ) → cliqueOf (size a) bz bo (length L) L c ≡ indexIn (sameOwner owner) G c
   unfolding cliqueOf
   below-clique c = ap₂ (λ (o l : List ℕ). indexIn (sameOwner o) l c) below-owners below-cliques
 
@@ -116,13 +116,13 @@ module _ (n m a b : ℕ) (g : List ℕ) (ha : a ≤ n) (hb : b ≤ m) (few : b �
     FS = sets (replicate 512 0) 0 L
 
     abbrev NS : List ℕ
-    NS = puts (length L) (cliqueOf (size a) bz bo L) (replicate 512 0)
+    NS = puts (length L) (cliqueOf (size a) bz bo (length L) L) (replicate 512 0)
 
     first-at : (c : ℕ) → c < length L → getD FS c 0 ≡ getD L c 0
     first-at c h = laid 512 L c narrow h
 
     clique-at : (c : ℕ) → c < length ps → getD NS c 0 ≡ indexIn (sameOwner owner) G c
-    clique-at c h = let k : c < length L = omega (arith, below-width) in stored 512 (length L) (cliqueOf (size a) bz bo L) c narrow k ∙ below-clique c
+    clique-at c h = let k : c < length L = omega (arith, below-width) in stored 512 (length L) (cliqueOf (size a) bz bo (length L) L) c narrow k ∙ below-clique c
 
     plane : (v : ℕ) → v < 2 → (from : List ℕ) → Plane a b Q (λ q k x. eqb (entry n a g (name q) k x) v) from
         → Plane a b (length (firsts n a b after)) (λ i k x. eqb (entry n a after (getD (firsts n a b after) i 0) k x) v)

@@ -12,4 +12,5 @@ pub mod Descent
 pub mod Packed
 pub mod Distinct
 pub mod Lowering
+pub mod Reduction
 pub mod Opened

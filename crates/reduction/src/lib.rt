@@ -23,6 +23,12 @@ pub struct Node {
     pub high: u16,
 }
 
+// The answer to a job and its sheet: a refusal, 1 to 7, or 0 and the number of nodes.
+pub struct Reduction {
+    pub refusal: u8,
+    pub nodes: u16,
+}
+
 // The end of a walk from one cut to the next: the node reached and the outputs met, topmost most significant.
 pub struct Reached {
     pub node: u16,
