@@ -1,7 +1,7 @@
 -- The cliques of packed columns as the code finds them: links are mutual, and the owners that are numbered are the cover's.
 -- Assumes nothing.
 use mathlib.Core.Path.{_≡_, refl, sym, _∙_, ap, ap₂}
-use mathlib.Core.Bool.{Bool, true, false, not, _&&_}
+use mathlib.Core.Bool.{Bool, true, false, cond, not, _&&_}
 use mathlib.Core.List.{List}
 use Prim.Native.Nat.{ℕ, _+_, _*_, _<_, _≤_}
 use native.Mathlib.Omega.{arith}
@@ -15,10 +15,10 @@ use Rattle.laws.specs.Tests.{any}
 use Rattle.laws.specs.Lists.{rect, puts}
 use Rattle.laws.specs.Bits.{flag}
 use Rattle.laws.proofs.Bits.{flag-is}
-use Rattle.laws.proofs.Cases.{by-equal, and-join}
+use Rattle.laws.proofs.Cases.{by-test, by-equal, cond-yes, cond-no}
 use Rattle.laws.proofs.Tests.{every-ext, any-out}
 use Rattle.laws.proofs.Masks.{not-both}
-use Rattle.laws.proofs.Lists.{row-end, length-rect, getD-rect}
+use Rattle.laws.proofs.Lists.{row-end, length-rect, getD-rect, rect-ext}
 use Rattle.laws.proofs.Filled.{getD-sets}
 use Rattle.laws.proofs.Puts.{puts-ext, stored}
 use Rattle.reduction.specs.Numbering.{indexIn, firstsOf}
@@ -135,3 +135,39 @@ module _ (size : ℕ) (zs os : List ℕ) (w : ℕ) (ps : List ℕ) (few : w ≤ 
   unfolding sameOwner
   apart-alike none c d hc hd =
       ap₂ eqb (stored 512 w (λ c. c) c few hc) (stored 512 w (λ c. c) d few hd) ∙ sym (apart-owner none c d hc hd)
+
+  -- what the owners array holds: the cover where something is linked, else each column's own number
+  module _ (r : Bool) (linked-some : r ≡ any w (λ c. any w (linkedWords zs os size ps c))) (old link : List ℕ) (len : length old ≡ 262144)
+      (is : link ≡ sets old 0 (rect w w (λ c d. flag (linkedWords zs os size ps c d)))) (owner : List ℕ)
+      (held : owner ≡ cond r (puts w (λ c. getD (cover w link) c 0) (replicate 512 0)) (puts w (λ c. c) (replicate 512 0))) where
+    covered : r ≡ true → (c : ℕ) → c < w → getD owner c 0 ≡ getD (owners size zs os w ps) c 0
+    covered e c hc = ap (λ (l : List ℕ). getD l c 0) (held ∙ cond-yes r _ _ e) ∙ cover-owner old link len is c hc
+
+    pub owned-below : (c : ℕ) → c < w → getD owner c 0 < 512
+    owned-below c hc =
+        by-test r (λ e. rw (covered e c hc) (owner-below c hc))
+        (λ e.
+        let z : getD owner c 0 ≡ c = ap (λ (l : List ℕ). getD l c 0) (held ∙ cond-no r _ _ e) ∙ stored 512 w (λ c. c) c few hc in
+        omega (arith, few))
+
+    pub owned-alike : (c d : ℕ) → c < w → d < w → sameOwner owner c d ≡ sameOwner (owners size zs os w ps) c d
+    owned-alike c d hc hd =
+        by-test r (λ e. owners-alike owner (covered e) c d hc hd)
+        (λ e.
+        ap (λ (l : List ℕ). sameOwner l c d) (held ∙ cond-no r _ _ e) ∙ apart-alike (sym linked-some ∙ e) c d hc hd)
+
+-- arrays that name the same columns have the same cliques
+module _ (size : ℕ) (zs os : List ℕ) (w : ℕ) (ps qs : List ℕ) (named : (c : ℕ) → c < w → getD ps c 0 ≡ getD qs c 0) where
+  flags-named : linkFlags size zs os w ps ≡ linkFlags size zs os w qs
+  unfolding linkFlags linkedWords
+  flags-named =
+      rect-ext (λ c d. flag (linkedWords zs os size ps c d)) (λ c d. flag (linkedWords zs os size qs c d)) w w
+      (λ c d hc hd. ap₂ (λ (p q : ℕ). flag (not (eqb c d) && agreeWords zs os size p q)) (named c hc) (named d hd))
+
+  pub cliqueFirsts-named : cliqueFirsts size zs os w ps ≡ cliqueFirsts size zs os w qs
+  unfolding cliqueFirsts owners
+  cliqueFirsts-named = ap (λ (l : List ℕ). firstsOf (sameOwner (cover w l)) w) flags-named
+
+  pub cliqueOf-named : (c : ℕ) → cliqueOf size zs os w ps c ≡ cliqueOf size zs os w qs c
+  unfolding cliqueOf cliqueFirsts owners
+  cliqueOf-named c = ap (λ (l : List ℕ). indexIn (sameOwner (cover w l)) (firstsOf (sameOwner (cover w l)) w) c) flags-named
