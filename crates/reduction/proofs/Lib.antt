@@ -1,6 +1,10 @@
 -- The reduction layer's laws.
 pub mod Numbering
 pub mod Numbers
+pub mod Hash
+pub mod Held
+pub mod Bytes
+pub mod Linked
 pub mod Planes
 pub mod PlanesMade
 pub mod PlanesHalved

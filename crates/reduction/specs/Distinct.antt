@@ -7,7 +7,6 @@ use lib.Dec.{eqb}
 use lib.Bits.{bitAnd, bitOr}
 use lib.ListN.{getD}
 use Rattle.laws.specs.Tests.{every}
-pub use Rattle.reduction.specs.Numbering.{indexIn, firstsOf}
 
 -- the packed columns p and q, of size words each, are equal in both planes
 unfoldable pub sameWords : List ℕ → List ℕ → ℕ → ℕ → ℕ → Bool

@@ -11,6 +11,8 @@ pub mod Compare
 pub mod Descent
 pub mod Packed
 pub mod Distinct
+pub mod Hash
+pub mod Bytes
 pub mod Lowering
 pub mod Reduction
 pub mod Opened

@@ -1,6 +1,8 @@
 // The reduction layer: columns, compatibility, cover, merging, the diagram and walks over it.
 mod casts;
 mod cover;
+mod distinct;
+mod links;
 mod merging;
 mod node_words;
 mod packed;
