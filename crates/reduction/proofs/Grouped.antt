@@ -10,7 +10,7 @@ use borrow.Author.Tests.{eq-eqb, ne-eqb}
 use lib.Dec.{eqb}
 use lib.Bits.{bitAnd, bitOr, and-comm, or-comm}
 use lib.ListN.{length, getD, replicate}
-use lib.Seq.{sets}
+use lib.Seq.{sets, length-sets}
 use Rattle.laws.specs.Tests.{any}
 use Rattle.laws.specs.Lists.{rect, puts}
 use Rattle.laws.specs.Bits.{flag}
@@ -75,6 +75,9 @@ module _ (size : ℕ) (zs os : List ℕ) (w : ℕ) (ps : List ℕ) (few : w ≤ 
         ap (λ (l : List ℕ). isIn l (c * w + d)) is
         ∙ ap (λ (v : ℕ). eqb v 1) (getD-sets old flags (c * w + d) 0 (omega arith) (omega arith))
         ∙ flags-at c d hc hd
+
+    pub link-length : length link ≡ 262144
+    link-length = ap (λ (l : List ℕ). length l) is ∙ length-sets old 0 (rect w w (λ c d. flag (linked c d))) ∙ len
 
     pub link-mutual : (c d : ℕ) → c < w → d < w → isIn link (c * w + d) ≡ isIn link (d * w + c)
     link-mutual c d hc hd = link-at c d hc hd ∙ linked-sym c d ∙ sym (link-at d c hd hc)

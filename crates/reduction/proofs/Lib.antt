@@ -23,6 +23,7 @@ pub mod Lowered
 pub mod Products
 pub mod Grouped
 pub mod HeightStep
+pub mod LowerSteps
 pub mod Ruled
 pub mod Final
 pub mod Refined

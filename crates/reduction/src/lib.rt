@@ -2,6 +2,7 @@
 mod casts;
 mod cover;
 mod distinct;
+mod heights;
 mod links;
 mod merging;
 mod node_words;
