@@ -24,6 +24,7 @@ pub mod Products
 pub mod Grouped
 pub mod HeightStep
 pub mod LowerSteps
+pub mod Over
 pub mod Ruled
 pub mod Final
 pub mod Refined

@@ -115,3 +115,116 @@ fn lower(
     cliques
 }
 
+// The same below an input; the words of the nodes of the columns above are stored too.
+fn lower_input(
+    a: usize,
+    b: usize,
+    size: usize,
+    w: usize,
+    at: usize,
+    height: u16,
+    base: usize,
+    zero: &mut [u64; 1024],
+    one: &mut [u64; 1024],
+    link: &mut [u8; 262144],
+    words: &mut [u16; 30720],
+) -> usize
+    requires { ⌜ (b ≤ 8) × (w ≤ 512) × (1 ≤ size) × (w * 2 * size ≤ 1024) × (length (now link) ≡ 262144) × (at + w ≤ 10240) × (base ≤ 20000) ⌝ }
+    ensures { λ r.
+        ⌜ r
+        ≡ cond (leb (length (firstsBelow true a b size w (now (zero .entry)) (now (one .entry)))) 512)
+        (length (cliquesBelow true a b size w (now (zero .entry)) (now (one .entry)))) 513 ⌝ }
+    ensures { λ r.
+        ⌜ (r ≤ 512 → now (zero .exit) ≡ productBelow true a b size w (now (zero .entry)) (now (one .entry)) (now (zero .entry)) (now (zero .entry))) ⌝ }
+    ensures { λ r.
+        ⌜ (r ≤ 512 → now (one .exit) ≡ productBelow true a b size w (now (zero .entry)) (now (one .entry)) (now (one .entry)) (now (one .entry))) ⌝ }
+    ensures { λ r.
+        ⌜ (r ≤ 512
+        → now (words .exit)
+        ≡ sets (now (words .entry)) (at * 3) (nodeWords (nodesOver true a b size w (now (zero .entry)) (now (one .entry)) height base))) ⌝ }
+    ensures { λ r. ⌜ (r ≤ 512 → length (now (link .exit)) ≡ 262144) ⌝ }
+{
+    let mut below = [0u16; 1024];
+    let cliques = lower(true, a, b, size, w, zero, one, link, &mut below);
+    if 512 < cliques {
+        return 513;
+    }
+    input_nodes(w, at, height, base, &below, words);
+    cliques
+}
+
+// The same below an output.
+fn lower_output(
+    a: usize,
+    b: usize,
+    size: usize,
+    w: usize,
+    at: usize,
+    height: u16,
+    base: usize,
+    zero: &mut [u64; 1024],
+    one: &mut [u64; 1024],
+    link: &mut [u8; 262144],
+    words: &mut [u16; 30720],
+) -> usize
+    requires { ⌜ (b < 8) × (w ≤ 512) × (1 ≤ size) × (w * 2 * size ≤ 1024) × (length (now link) ≡ 262144) × (at + w ≤ 10240) × (base ≤ 20000) ⌝ }
+    ensures { λ r.
+        ⌜ r
+        ≡ cond (leb (length (firstsBelow false a b size w (now (zero .entry)) (now (one .entry)))) 512)
+        (length (cliquesBelow false a b size w (now (zero .entry)) (now (one .entry)))) 513 ⌝ }
+    ensures { λ r.
+        ⌜ (r ≤ 512 → now (zero .exit) ≡ productBelow false a b size w (now (zero .entry)) (now (one .entry)) (now (zero .entry)) (now (zero .entry))) ⌝ }
+    ensures { λ r.
+        ⌜ (r ≤ 512 → now (one .exit) ≡ productBelow false a b size w (now (zero .entry)) (now (one .entry)) (now (one .entry)) (now (one .entry))) ⌝ }
+    ensures { λ r.
+        ⌜ (r ≤ 512
+        → now (words .exit)
+        ≡ sets (now (words .entry)) (at * 3) (nodeWords (nodesOver false a b size w (now (zero .entry)) (now (one .entry)) height base))) ⌝ }
+    ensures { λ r. ⌜ (r ≤ 512 → length (now (link .exit)) ≡ 262144) ⌝ }
+{
+    let mut values = [0u8; 512];
+    top_values(w, size, b, zero, one, &mut values);
+    let mut below = [0u16; 1024];
+    let cliques = lower(false, a, b, size, w, zero, one, link, &mut below);
+    if 512 < cliques {
+        return 513;
+    }
+    output_nodes(w, at, height, base, &values, &below, words);
+    cliques
+}
+
+// One height further down: below an input or an output.
+pub fn step(
+    input: bool,
+    a: usize,
+    b: usize,
+    size: usize,
+    w: usize,
+    at: usize,
+    height: u16,
+    base: usize,
+    zero: &mut [u64; 1024],
+    one: &mut [u64; 1024],
+    link: &mut [u8; 262144],
+    words: &mut [u16; 30720],
+) -> usize
+    requires { ⌜ (b ≤ 8) × (input ≡ false → b < 8) × (w ≤ 512) × (1 ≤ size) × (w * 2 * size ≤ 1024) × (length (now link) ≡ 262144) × (at + w ≤ 10240) × (base ≤ 20000) ⌝ }
+    ensures { λ r.
+        ⌜ r
+        ≡ cond (leb (length (firstsBelow input a b size w (now (zero .entry)) (now (one .entry)))) 512)
+        (length (cliquesBelow input a b size w (now (zero .entry)) (now (one .entry)))) 513 ⌝ }
+    ensures { λ r.
+        ⌜ (r ≤ 512 → now (zero .exit) ≡ productBelow input a b size w (now (zero .entry)) (now (one .entry)) (now (zero .entry)) (now (zero .entry))) ⌝ }
+    ensures { λ r.
+        ⌜ (r ≤ 512 → now (one .exit) ≡ productBelow input a b size w (now (zero .entry)) (now (one .entry)) (now (one .entry)) (now (one .entry))) ⌝ }
+    ensures { λ r.
+        ⌜ (r ≤ 512
+        → now (words .exit)
+        ≡ sets (now (words .entry)) (at * 3) (nodeWords (nodesOver input a b size w (now (zero .entry)) (now (one .entry)) height base))) ⌝ }
+    ensures { λ r. ⌜ (r ≤ 512 → length (now (link .exit)) ≡ 262144) ⌝ }
+{
+    if input {
+        return lower_input(a, b, size, w, at, height, base, zero, one, link, words);
+    }
+    lower_output(a, b, size, w, at, height, base, zero, one, link, words)
+}

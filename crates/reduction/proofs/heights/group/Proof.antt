@@ -28,11 +28,12 @@ returns c =
     let a = c .before .before .before .before .before .before .before .before .args in
     let p = c .before .before .before .before .before .before .before .before .pre in
     let l = c .before .before .before .before .before .before .link-columns in
-    let alike = owned-alike (a .size) (a .zero .now) (a .one .now) (a .w) (a .firsts .now) (p .0) (l .result) (l .ensures .0) (a .link .now) _ (p .2) (l .ensures .1) _ (c .before .before .before .own .ensures) in
-    (
+    let alike = owned-alike (a .size) (a .zero .now) (a .one .now) (a .w) (a .firsts .now) (p .0) (l .result) (l .ensures .0) (a .link .now) _ (p .2) (l .ensures .1) _ (c .before .before .before .own .ensures) in (
       c .renumber .ensures .0 ∙ cliques-count (a .size) (a .zero .now) (a .one .now) (a .w) (a .firsts .now) (p .0) _ alike,
-      (c .renumber .ensures .1 ∙ cliques-numbered (a .size) (a .zero .now) (a .one .now) (a .w) (a .firsts .now) (p .0) _ alike (a .nums .now),
-      link-length (a .size) (a .zero .now) (a .one .now) (a .w) (a .firsts .now) (p .0) (a .link .now) _ (p .2) (l .ensures .1)),
+      (
+        c .renumber .ensures .1 ∙ cliques-numbered (a .size) (a .zero .now) (a .one .now) (a .w) (a .firsts .now) (p .0) _ alike (a .nums .now),
+        link-length (a .size) (a .zero .now) (a .one .now) (a .w) (a .firsts .now) (p .0) (a .link .now) _ (p .2) (l .ensures .1),
+      ),
     )
 
 pub group-spec : {M : Type 1} → statement M

@@ -99,12 +99,19 @@ returns-2 c =
     let ec = c .before .before .before .before .before .before .before .before .before .before .before .before .before .before .before .before .before .before .before .before .before .before .before .before .before .before .candidate-count .ensures in
     let n = c .before .before .before .before .before .before .before .before .before .before .before .before .before .before .before .before .before .before .before .before .before .number in
     let narrow : n .result ≤ 512 = omega (arith, c .before .before .before .before .before .before .before .before .before .before .before .before .before .before .before .before .before .before .before .before .if1 .left) in
-    let g = c .before .before .before .before .before .before .before .before .before .before .before .before .before .before .group in
-    (cliques-answer (a .input) (a .a) (a .b) (a .size) (a .w) (a .zero .now) (a .one .now) (p .1) (p .3) _ _ ez eo _ ec (n .result) (n .ensures .0) narrow _ (n .ensures .1 .0 narrow) (g .result) (g .ensures .0),
-    ((λ h. c .before .before .before .before .before .before .before .before .before .add-columns .ensures ∙ product-is (a .input) (a .a) (a .b) (a .size) (a .w) (a .zero .now) (a .one .now) (p .1) (p .3) _ _ ez eo _ ec (n .result) (n .ensures .0) narrow _ (n .ensures .1 .0 narrow) _ (g .ensures .1 .0) _ (a .zero .now) (a .zero .now) ez),
-    ((λ h. c .before .before .before .before .add-columns2 .ensures ∙ product-is (a .input) (a .a) (a .b) (a .size) (a .w) (a .zero .now) (a .one .now) (p .1) (p .3) _ _ ez eo _ ec (n .result) (n .ensures .0) narrow _ (n .ensures .1 .0 narrow) _ (g .ensures .1 .0) _ (a .one .now) (a .one .now) eo),
-    ((λ h. c .children .ensures ∙ below-is (a .input) (a .a) (a .b) (a .size) (a .w) (a .zero .now) (a .one .now) (p .1) (p .3) _ _ ez eo _ ec (n .result) (n .ensures .0) narrow _ (n .ensures .1 .0 narrow) _ (g .ensures .1 .0) _ (n .ensures .1 .1 narrow) (a .below .now)),
-    (λ h. g .ensures .1 .1)))))
+    let g = c .before .before .before .before .before .before .before .before .before .before .before .before .before .before .group in (
+      cliques-answer (a .input) (a .a) (a .b) (a .size) (a .w) (a .zero .now) (a .one .now) (p .1) (p .3) _ _ ez eo _ ec (n .result) (n .ensures .0) narrow _ (n .ensures .1 .0 narrow) (g .result) (g .ensures .0),
+      (
+        (λ h. c .before .before .before .before .before .before .before .before .before .add-columns .ensures ∙ product-is (a .input) (a .a) (a .b) (a .size) (a .w) (a .zero .now) (a .one .now) (p .1) (p .3) _ _ ez eo _ ec (n .result) (n .ensures .0) narrow _ (n .ensures .1 .0 narrow) _ (g .ensures .1 .0) _ (a .zero .now) (a .zero .now) ez),
+        (
+          (λ h. c .before .before .before .before .add-columns2 .ensures ∙ product-is (a .input) (a .a) (a .b) (a .size) (a .w) (a .zero .now) (a .one .now) (p .1) (p .3) _ _ ez eo _ ec (n .result) (n .ensures .0) narrow _ (n .ensures .1 .0 narrow) _ (g .ensures .1 .0) _ (a .one .now) (a .one .now) eo),
+          (
+            (λ h. c .children .ensures ∙ below-is (a .input) (a .a) (a .b) (a .size) (a .w) (a .zero .now) (a .one .now) (p .1) (p .3) _ _ ez eo _ ec (n .result) (n .ensures .0) narrow _ (n .ensures .1 .0 narrow) _ (g .ensures .1 .0) _ (n .ensures .1 .1 narrow) (a .below .now)),
+            (λ h. g .ensures .1 .1),
+          ),
+        ),
+      ),
+    )
 
 pub lower-spec : {M : Type 1} → statement M
 lower-spec =
