@@ -25,6 +25,7 @@ pub mod Grouped
 pub mod HeightStep
 pub mod LowerSteps
 pub mod Over
+pub mod KindSteps
 pub mod Ruled
 pub mod Final
 pub mod Refined
