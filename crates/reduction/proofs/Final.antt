@@ -154,7 +154,7 @@ module _ (j : Job) where
       width-final k h = ap (λ (ps : List ℕ). length ps) (firsts-final k h)
 
       -- a merge leaves its own height no wider
-      width-merge : (k : ℕ) → width j (merged j f (suc k)) (t j - suc k) ≤ width j (merged j f k) (t j - suc k)
+      pub width-merge : (k : ℕ) → width j (merged j f (suc k)) (t j - suc k) ≤ width j (merged j f k) (t j - suc k)
       unfolding width firstsAt merged mergeAt
       width-merge k =
           width-cliques (j .n) (j .m) (ins j (t j - suc k)) (outs j (t j - suc k)) (merged j f k) (ins-most (suc k)) (outs-most (suc k))

@@ -40,4 +40,5 @@ pub mod Halves
 pub mod Compared
 pub mod Owners
 pub mod NodeTable
+pub mod Passes
 pub mod Examples

@@ -67,7 +67,7 @@ module _ (j : Job) (once : notEachOnce (j .n) (j .m) (j .order) ≡ false) (few 
   width-at k l = ap (λ (ps : List ℕ). length ps) (firsts-at k l)
 
   -- the nodes at the k topmost heights
-  pub topNodes : ℕ → List Node
+  unfoldable pub topNodes : ℕ → List Node
   topNodes zero = []
   topNodes (suc k) = topNodes k ++ tab (widthIn ls (t j - k)) (nodeAt j F ls (t j - suc k))
 
@@ -138,7 +138,7 @@ module _ (j : Job) (once : notEachOnce (j .n) (j .m) (j .order) ≡ false) (few 
     above-width = ap (λ (h : ℕ). widthIn ls h) up ∙ ap (λ (ps : List ℕ). length ps) above-firsts
 
     -- where the nodes of height H begin: those of height 0 are the constant 1
-    pub firstNode : ℕ
+    unfoldable pub firstNode : ℕ
     firstNode = cond (eqb H 0) 1 (2 + sum (suc k) (λ i. widthIn ls (t j - i)))
 
     -- the node of a prefix at height H, from its number after the merge there
