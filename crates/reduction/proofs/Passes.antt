@@ -6,17 +6,17 @@ use mathlib.Core.List.{List, [], _∷_, _++_}
 use Prim.Native.Nat.{ℕ, zero, suc, _+_, _-_, _*_, _/_, _%_, _^_, _<_, _≤_}
 use native.Mathlib.Nat.{mul-le-mul, le-refl, add-mul, suc-mul, zero-mul}
 use native.Mathlib.Omega.{arith}
-use borrow.Author.Tests.{ltb-true, ltb-false, lt-ltb, le-ltb, eq-eqb, ne-eqb, leb-true}
+use borrow.Author.Tests.{ltb-false, lt-ltb, le-ltb, leb-true, leb-false, le-leb}
 use lib.Dec.{eqb, ltb, leb}
 use lib.ListN.{length, getD, set, replicate, length-set, length-append}
 use lib.Pow.{pow-pos, pow-add, pow-mono}
 use lib.Seq.{sets, getD-set-same, getD-set-other}
 use Rattle.laws.specs.Tests.{sum}
-use Rattle.laws.specs.Lists.{tab}
+use Rattle.laws.specs.Lists.{tab, puts}
 use Rattle.laws.proofs.Cases.{by-test, by-less, by-equal, cond-yes, cond-no, last-or-below}
 use Rattle.laws.proofs.Counts.{sum-le}
 use Rattle.laws.proofs.Lists.{length-tab, tab-ext}
-use Rattle.laws.proofs.Puts.{sets-append}
+use Rattle.laws.proofs.Puts.{sets-append, length-puts}
 use Rattle.sheet.specs.Job.{Job, t, ins, outs, varAt, isInput}
 use Rattle.sheet.specs.Refusals.{notEachOnce}
 use Rattle.sheet.proofs.Orders.{ins-rise}
@@ -31,6 +31,9 @@ use Rattle.reduction.proofs.Planes.{Plane}
 use Rattle.reduction.proofs.Children.{ins-input, ins-output, outs-input, outs-output, ins-below, outs-below}
 use Rattle.reduction.proofs.Refined.{width-layer}
 use Rattle.reduction.proofs.Stages.{width-at, topNodes, top-length, above-width, firstNode, input-node, output-node}
+use Rattle.reduction.proofs.LowerSteps.{cliques-fit}
+use Rattle.reduction.proofs.Over.{went}
+use Rattle.reduction.proofs.PlanesMade.{length-added}
 use Rattle.reduction.proofs.KindSteps.{Step, input-step, output-step, output-value}
 use Rattle.reduction.proofs.NodeTable.{nodeWords-append, length-nodeWords}
 
@@ -213,3 +216,90 @@ module _ (j : Job) (once : notEachOnce (j .n) (j .m) (j .order) ≡ false) (few 
         ≡ tab (widthIn (layers j (reduced j f)) (t j - k)) (nodeAt j (reduced j f) (layers j (reduced j f)) (t j - suc k))
     nodes-made true v = nodes-in v
     nodes-made false v = nodes-out v
+
+    -- the answer of the step below an input or an output
+    module _ (input : Bool) (v : isInput (varAt j (suc (t j - suc k))) ≡ input) (r : ℕ)
+        (er : r ≡ cond (leb (length (firstsBelow input (ins j (t j - suc k)) (outs j (t j - suc k)) (size (ins j (t j - suc k))) w zs os)) 512)
+        (length (cliquesBelow input (ins j (t j - suc k)) (outs j (t j - suc k)) (size (ins j (t j - suc k))) w zs os)) 513) where
+      abbrev before : ℕ
+      before = length (firstsBelow input (ins j H) (outs j H) (size (ins j H)) w zs os)
+
+      abbrev left : ℕ
+      left = length (cliquesBelow input (ins j H) (outs j H) (size (ins j H)) w zs os)
+
+      width-before : width j g H ≡ before
+      unfolding width firstsAt
+      width-before = stepped input v .2 .width-before
+
+      width-next : width j (merged j f (suc k)) H ≡ left
+      unfolding width firstsAt merged mergeAt
+      width-next = stepped input v .2 .width-after
+
+      pub too-wide : 512 < r → tooWide j f k ≡ true
+      unfolding tooWide
+      too-wide h =
+          by-test (leb before 512)
+          (λ e.
+          let z : r ≡ left = er ∙ cond-yes (leb before 512) left 513 e in
+          absurd (omega (arith, leb-true before 512 e, cliques-fit input (ins j H) (outs j H) (size (ins j H)) w zs os (s .few-columns) planes-room)))
+          (λ e. lt-ltb 512 (width j g H) (omega (arith, width-before, leb-false before 512 e)))
+
+      module _ (h : r ≤ 512) (zs′ os′ words′ : List ℕ)
+          (ez : zs′ ≡ productBelow input (ins j (t j - suc k)) (outs j (t j - suc k)) (size (ins j (t j - suc k))) w zs os zs zs)
+          (eo : os′ ≡ productBelow input (ins j (t j - suc k)) (outs j (t j - suc k)) (size (ins j (t j - suc k))) w zs os os os)
+          (ew : words′
+          ≡ sets words (at * 3)
+          (nodeWords
+          (nodesOver input (ins j (t j - suc k)) (outs j (t j - suc k)) (size (ins j (t j - suc k))) w zs os (suc (t j - suc k)) (cond (eqb (t j - suc k) 0) 1 (2 + (at + w)))))) where
+        fine : before ≤ 512
+        fine = went input (ins j H) (outs j H) (size (ins j H)) w zs os (s .few-columns) planes-room r er h
+
+        answer : r ≡ width j (merged j f (suc k)) H
+        answer = er ∙ cond-yes (leb before 512) left 513 (le-leb before 512 fine) ∙ sym width-next
+
+        not-wide : tooWide j f k ≡ false
+        unfolding tooWide
+        not-wide = le-ltb 512 (width j g H) (omega (arith, width-before, fine))
+
+        product-length : (from old : List ℕ) → length (productBelow input (ins j H) (outs j H) (size (ins j H)) w zs os from old) ≡ length old
+        unfolding productBelow
+        product-length from old = length-added (size (ins j H)) _ _ _ (puts 1024 (λ i. 0) old) _ ∙ length-puts (λ i. 0) 1024 old
+
+        words-next : words′ ≡ sets (replicate 30720 0) 0 (nodeWords (topNodes j once few out f (suc k)))
+        unfolding topNodes
+        words-next =
+            let top = topNodes j once few out f k in
+            let new = tab (widthIn ls (t j - k)) (nodeAt j F ls H) in
+            let e : 0 + length (nodeWords top) ≡ at * 3 = omega (arith, length-nodeWords top, top-length j once few out f k, s .counted) in
+            ew
+            ∙ ap₂ (λ (l : List ℕ) (x : List Node). sets l (at * 3) (nodeWords x)) (s .words-are) (nodes-made input v)
+            ∙ ap (λ (i : ℕ). sets (sets (replicate 30720 0) 0 (nodeWords top)) i (nodeWords new)) (sym e)
+            ∙ sym (sets-append (nodeWords top) (nodeWords new) (replicate 30720 0) 0)
+            ∙ ap (λ (x : List ℕ). sets (replicate 30720 0) 0 x) (sym (nodeWords-append top new))
+
+        widths-next : (i : ℕ) → i < suc k → getD (set widths H r) (t j - suc i) 0 ≡ width j F (t j - suc i)
+        widths-next i hi =
+            last-or-below i k hi
+            (λ e.
+            rw e
+            (getD-set-same widths H r 0 (omega (arith, s .widths-length, few, out)) ∙ answer ∙ sym (width-at j once few out f (suc k) l)))
+            (λ b. getD-set-other widths H (t j - suc i) r 0 (λ z. absurd (omega arith)) ∙ s .widths-are i b)
+
+        pub next : Stage (suc k) (ins j (t j - suc k)) (outs j (t j - suc k)) r (at + w) zs′ os′ (set widths (t j - suc k) r) words′
+        unfolding width firstsAt merged mergeAt
+        next =
+            record {
+              inputs = refl;
+              outputs = refl;
+              columns = answer;
+              few-columns = h;
+              counted = next-count;
+              zeros = rw ez (stepped input v .2 .zeros-after fine zs (s .zeros-length));
+              ones = rw eo (stepped input v .2 .ones-after fine os (s .ones-length));
+              zeros-length = ap (λ (x : List ℕ). length x) ez ∙ product-length zs zs ∙ s .zeros-length;
+              ones-length = ap (λ (x : List ℕ). length x) eo ∙ product-length os os ∙ s .ones-length;
+              narrow = λ i hi. last-or-below i k hi (λ e. rw e not-wide) (s .narrow i);
+              widths-length = length-set widths H r ∙ s .widths-length;
+              widths-are = widths-next;
+              words-are = words-next;
+            }

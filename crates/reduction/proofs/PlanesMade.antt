@@ -190,8 +190,8 @@ value-plane a b w e zs os hb below zeros ones c hc =
     ∙ value-of (e c b 0) (below c b 0)
 
 -- Columns added into columns: a word of the sum is the words of its columns, one over another
-module _ (s v : ℕ) (firsts nums from to : List ℕ) (fits : v * s ≤ length to) where
-  length-added : (w : ℕ) → length (addedColumns s firsts nums from w to) ≡ length to
+module _ (s : ℕ) (firsts nums from to : List ℕ) where
+  pub length-added : (w : ℕ) → length (addedColumns s firsts nums from w to) ≡ length to
   unfolding addedColumns
   length-added zero = refl
   length-added (suc c) =
@@ -199,6 +199,7 @@ module _ (s v : ℕ) (firsts nums from to : List ℕ) (fits : v * s ≤ length t
       let g = getD nums c 0 * s in
       length-putsAt (λ i. bitOr (getD old (g + i) 0) (getD from (getD firsts c 0 * s + i) 0)) g s old ∙ length-added c
 
+module _ (s v : ℕ) (firsts nums from to : List ℕ) (fits : v * s ≤ length to) where
   added-at : (w : ℕ) → ((c : ℕ) → c < w → getD nums c 0 < v) → (g i : ℕ) → g < v → i < s
       → getD (addedColumns s firsts nums from w to) (g * s + i) 0
       ≡ marks (getD to (g * s + i) 0) (λ c. cond (eqb (getD nums c 0) g) (getD from (getD firsts c 0 * s + i) 0) 0) w
@@ -213,7 +214,7 @@ module _ (s v : ℕ) (firsts nums from to : List ℕ) (fits : v * s ≤ length t
       by-equal n g
       (λ e.
       let at : g * s + i ≡ n * s + i = ap (λ (x : ℕ). x * s + i) (sym e) in
-      let l : n * s + i < length old = omega (arith, row-end g v s hg, length-added c) in
+      let l : n * s + i < length old = omega (arith, row-end g v s hg, length-added s firsts nums from to c) in
       ap (λ (x : ℕ). getD (putsAt (n * s) s f old) x 0) at ∙ getD-putsAt f (n * s) s old 0 i hi l
       ∙ ap₂ bitOr (ap (λ (x : ℕ). getD old x 0) (sym at) ∙ before) (sym (cond-yes (eqb n g) word 0 (eq-eqb n g e))))
       (λ e.
