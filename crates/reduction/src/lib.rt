@@ -8,6 +8,7 @@ mod merging;
 mod node_words;
 mod packed;
 mod walks;
+mod whole;
 
 ghost use mathlib.Core.Path.{_≡_};
 ghost use Rattle.reduction.specs.Walk.{walk};

@@ -1,0 +1,101 @@
+// The reduction of a job and its sheet: one pass down the heights.
+ghost use mathlib.Core.Path.{_≡_};
+ghost use mathlib.Core.Bool.{Bool, cond};
+ghost use Prim.Native.Nat.{ℕ, _≤_, _<_, _+_, _-_, _^_};
+ghost use lib.Dec.{eqb};
+ghost use lib.ListN.{length, getD, replicate};
+ghost use lib.Seq.{sets};
+ghost use Rattle.laws.specs.Lists.{puts};
+ghost use Rattle.sheet.specs.Job.{job, isInput};
+ghost use Rattle.sheet.specs.Refusals.{sheetRefusal};
+ghost use Rattle.sheet.specs.Table.{tableAfter};
+ghost use Rattle.reduction.specs.Columns.{width};
+ghost use Rattle.reduction.specs.Diagram.{nodeWords};
+ghost use Rattle.reduction.specs.Packed.{size, packedWord, placesWith};
+ghost use Rattle.reduction.specs.Reduction.{reductionRefusal, finalTable, finalNodes, reduction};
+use crate::heights::step;
+use crate::packed::pack;
+use crate::Reduction;
+
+// The planes of the sheet's table, where no refusal is given.
+fn planes(
+    n: usize,
+    m: usize,
+    k: usize,
+    l: usize,
+    order: &[u8],
+    sheet: &[u8],
+    zero: &mut [u64; 1024],
+    one: &mut [u64; 1024],
+) -> u8
+    ensures { λ r. ⌜ r ≡ sheetRefusal (job n m k l (now (order .entry))) (now (sheet .entry)) ⌝ }
+    ensures { λ r.
+        ⌜ (r ≡ 0
+        → now (zero .exit)
+        ≡ puts 512 (packedWord (placesWith (tableAfter (job n m k l (now (order .entry))) (now (sheet .entry)) (replicate 32768 0)) n m 0)) (now (zero .entry))) ⌝ }
+    ensures { λ r.
+        ⌜ (r ≡ 0
+        → now (one .exit)
+        ≡ puts 512 (packedWord (placesWith (tableAfter (job n m k l (now (order .entry))) (now (sheet .entry)) (replicate 32768 0)) n m 1)) (now (one .entry))) ⌝ }
+{
+    let mut table = [0u8; 32768];
+    let r = sheet::fill_table(n, m, k, l, order, sheet, &mut table);
+    if r == 0 {
+        pack(n, m, &table, 0, zero);
+        pack(n, m, &table, 1, one);
+    }
+    r
+}
+
+fn is_input(v: u8) -> bool
+    ensures { λ r. ⌜ r ≡ isInput v ⌝ }
+{
+    v < 128
+}
+
+// The inputs, and the outputs, below a variable, of which a and b stand there and below.
+fn inputs_below(input: bool, a: usize) -> usize
+    ensures { λ r. ⌜ r ≡ cond input (a - 1) a ⌝ }
+{
+    if input {
+        if a == 0 {
+            return 0;
+        }
+        return a - 1;
+    }
+    a
+}
+
+fn outputs_below(input: bool, b: usize) -> usize
+    ensures { λ r. ⌜ r ≡ cond input b (b - 1) ⌝ }
+{
+    if input {
+        return b;
+    }
+    if b == 0 {
+        return 0;
+    }
+    b - 1
+}
+
+// The words of a column of 2^a places.
+fn words_in(a: usize) -> usize
+    requires { ⌜ a ≤ 12 ⌝ }
+    ensures { λ r. ⌜ r ≡ size a ⌝ }
+{
+    if a < 3 {
+        return 1;
+    }
+    1 << (a - 3)
+}
+
+// The number of the first node at a height, where count nodes stand above it.
+fn first_node(height: usize, count: usize) -> usize
+    requires { ⌜ count ≤ 10240 ⌝ }
+    ensures { λ r. ⌜ r ≡ cond (eqb height 0) 1 (2 + count) ⌝ }
+{
+    if height == 0 {
+        return 1;
+    }
+    2 + count
+}
