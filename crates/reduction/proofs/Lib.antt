@@ -41,4 +41,6 @@ pub mod Compared
 pub mod Owners
 pub mod NodeTable
 pub mod Passes
+pub mod PassEnds
+pub mod Going
 pub mod Examples

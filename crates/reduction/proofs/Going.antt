@@ -1,0 +1,114 @@
+-- The pass over the heights as the code's loop goes: what it holds after i steps, what the next step needs, and that it goes on.
+-- Assumes nothing.
+use mathlib.Core.Path.{_≡_, refl, sym, _∙_, ap, ap₂}
+use mathlib.Core.Bool.{Bool, true, false, cond}
+use mathlib.Core.List.{List}
+use Prim.Native.Nat.{ℕ, suc, _+_, _-_, _*_, _<_, _≤_}
+use native.Mathlib.Numerals.{add-one}
+use native.Mathlib.Omega.{arith}
+use lib.Dec.{eqb, leb}
+use lib.ListN.{length, getD, set}
+use lib.Pow.{pow-pos}
+use lib.Seq.{sets}
+use Rattle.laws.proofs.Cases.{by-test, cond-both}
+use Rattle.sheet.specs.Job.{Job, t, ins, outs, varAt, isInput}
+use Rattle.sheet.specs.Refusals.{sheetRefusal}
+use Rattle.sheet.specs.Table.{table}
+use Rattle.reduction.specs.Merge.{refuse7}
+use Rattle.reduction.specs.Diagram.{nodeWords}
+use Rattle.reduction.specs.Packed.{size}
+use Rattle.reduction.specs.Lowering.{firstsBelow, cliquesBelow, productBelow, nodesOver}
+use Rattle.reduction.proofs.Children.{ins-input, ins-output, outs-input, outs-output, ins-below, outs-below}
+use Rattle.reduction.proofs.Passes.{nodes-room, planes-room, line-room, too-wide, next}
+use Rattle.reduction.proofs.PassEnds.{read, small, At, wide-refused}
+
+pub record Going (j : Job) (s : List ℕ) (i a b w at : ℕ) (zs os link widths words : List ℕ) : Type 0 where
+  pub accepted : sheetRefusal j s ≡ 0
+  pub stage : At j s accepted i a b w at zs os widths words
+  pub links : length link ≡ 262144
+  pub within : i ≤ t j
+
+module _ (j : Job) (s : List ℕ) (i a b w at : ℕ) (zs os link widths words : List ℕ) (g : Going j s i a b w at zs os link widths words) (l : i < t j)
+    (input : Bool) (ei : input ≡ isInput (getD (j .order) i 0)) (below : ℕ) (eb : below ≡ t j - 1 - i) (a′ b′ : ℕ) (ea : a′ ≡ cond input (a - 1) a)
+    (eo : b′ ≡ cond input b (b - 1)) where
+  abbrev H : ℕ
+  H = t j - suc i
+
+  abbrev acc : sheetRefusal j s ≡ 0
+  acc = g .accepted
+
+  height : below ≡ H
+  height = omega arith
+
+  kind : isInput (varAt j (suc H)) ≡ input
+  kind = let z : t j - suc H ≡ i = omega arith in ap (λ (x : ℕ). isInput (getD (j .order) x 0)) z ∙ sym ei
+
+  a-above : a ≡ ins j (suc H)
+  a-above = let z : t j - i ≡ suc H = omega arith in g .stage .inputs ∙ ap (ins j) z
+
+  b-above : b ≡ outs j (suc H)
+  b-above = let z : t j - i ≡ suc H = omega arith in g .stage .outputs ∙ ap (outs j) z
+
+  ins-is : a′ ≡ ins j H
+  ins-is =
+      by-test input
+      (λ e. let z : a′ ≡ a - 1 = rw e at ea in omega (arith, a-above, ins-input j H (kind ∙ e)))
+      (λ e. let z : a′ ≡ a = rw e at ea in omega (arith, a-above, ins-output j H (kind ∙ e)))
+
+  outs-is : b′ ≡ outs j H
+  outs-is =
+      by-test input
+      (λ e. let z : b′ ≡ b = rw e at eo in omega (arith, b-above, outs-input j H (kind ∙ e)))
+      (λ e. let z : b′ ≡ b - 1 = rw e at eo in omega (arith, b-above, outs-output j H (kind ∙ e)))
+
+  pub few-inputs : a′ ≤ 12
+  few-inputs = omega (arith, ins-is, ins-below j (read j s acc .order-whole) (read j s acc .inputs) (read j s acc .outputs) H (omega arith), read j s acc .inputs)
+
+  pub count-fits : at + w ≤ 10240
+  count-fits =
+      nodes-room j (read j s acc .order-whole) (read j s acc .inputs) (read j s acc .outputs) (table j s) (small j s acc) i a b w at zs os widths words (g .stage) l
+
+  module _ (sz : ℕ) (es : sz ≡ size a′) (base : ℕ) (ebase : base ≡ cond (eqb below 0) 1 (2 + (at + w))) where
+    size-is : sz ≡ size (ins j H)
+    size-is = es ∙ ap size ins-is
+
+    pub step-needs : (b′ ≤ 8) × (input ≡ false → b′ < 8) × (w ≤ 512) × (1 ≤ sz) × (w * 2 * sz ≤ 1024) × (length link ≡ 262144) × (at + w ≤ 10240) × (base ≤ 20000)
+    step-needs =
+        (
+          omega (arith, outs-is, outs-below j (read j s acc .order-whole) (read j s acc .inputs) (read j s acc .outputs) H (omega arith), read j s acc .outputs),
+          (λ e. rw outs-is
+          (line-room j (read j s acc .order-whole) (read j s acc .inputs) (read j s acc .outputs) (table j s) (small j s acc) i a b w at zs os widths words (g .stage) l (kind ∙ e))),
+          g .stage .few-columns,
+          rw size-is (pow-pos (ins j H - 3)),
+          rw size-is
+          (planes-room j (read j s acc .order-whole) (read j s acc .inputs) (read j s acc .outputs) (table j s) (small j s acc) i a b w at zs os widths words (g .stage) l),
+          g .links,
+          count-fits,
+          rw ebase (cond-both (λ x. x ≤ 20000) (eqb below 0) (omega arith) (omega (arith, count-fits))),
+        )
+
+    module _ (r : ℕ) (er : r ≡ cond (leb (length (firstsBelow input a′ b′ sz w zs os)) 512) (length (cliquesBelow input a′ b′ sz w zs os)) 513) where
+      er-is : r ≡ cond (leb (length (firstsBelow input (ins j H) (outs j H) (size (ins j H)) w zs os)) 512) (length (cliquesBelow input (ins j H) (outs j H) (size (ins j H)) w zs os)) 513
+      er-is = rw (size-is, ins-is, outs-is) at er
+
+      pub stops : 512 < r → refuse7 j (table j s) ≡ true
+      stops h =
+          wide-refused j s acc i l
+          (too-wide j (read j s acc .order-whole) (read j s acc .inputs) (read j s acc .outputs) (table j s) (small j s acc) i a b w at zs os widths words (g .stage) l input kind r er-is h)
+
+      module _ (h : r ≤ 512) (up : ℕ) (eu : up ≡ below + 1) (r16 : ℕ) (e16 : r16 ≡ r) (zs′ os′ link′ words′ : List ℕ)
+          (ez : zs′ ≡ productBelow input a′ b′ sz w zs os zs zs) (eq : os′ ≡ productBelow input a′ b′ sz w zs os os os)
+          (ew : words′ ≡ sets words (at * 3) (nodeWords (nodesOver input a′ b′ sz w zs os up base))) (el : length link′ ≡ 262144) where
+        pub goes-on : Going j s (i + 1) a′ b′ r (at + w) zs′ os′ link′ (set widths below r16) words′
+        goes-on =
+            let top : up ≡ suc H = omega (arith, height) in
+            let start : base ≡ cond (eqb H 0) 1 (2 + (at + w)) = ebase ∙ ap (λ (x : ℕ). cond (eqb x 0) 1 (2 + (at + w))) height in
+            record {
+              accepted = acc;
+              stage =
+                  rw (add-one i, ins-is, outs-is, height, e16)
+                  (next j (read j s acc .order-whole) (read j s acc .inputs) (read j s acc .outputs) (table j s) (small j s acc) i a b w at zs os widths words (g .stage) l
+                  input kind r er-is h zs′ os′ words′ (rw (size-is, ins-is, outs-is) at ez) (rw (size-is, ins-is, outs-is) at eq) (rw (size-is, ins-is, outs-is, top, start) at ew));
+              links = el;
+              within = omega arith;
+            }
