@@ -7,20 +7,23 @@ use Prim.Native.Nat.{ℕ, suc, _+_, _-_, _*_, _<_, _≤_}
 use native.Mathlib.Numerals.{add-one}
 use native.Mathlib.Omega.{arith}
 use lib.Dec.{eqb, leb}
-use lib.ListN.{length, getD, set}
+use lib.ListN.{length, getD, set, replicate}
 use lib.Pow.{pow-pos}
 use lib.Seq.{sets}
 use Rattle.laws.proofs.Cases.{by-test, cond-both}
 use Rattle.sheet.specs.Job.{Job, t, ins, outs, varAt, isInput}
 use Rattle.sheet.specs.Refusals.{sheetRefusal}
 use Rattle.sheet.specs.Table.{table}
+use Rattle.reduction.specs.Columns.{width}
 use Rattle.reduction.specs.Merge.{refuse7}
 use Rattle.reduction.specs.Diagram.{nodeWords}
 use Rattle.reduction.specs.Packed.{size}
 use Rattle.reduction.specs.Lowering.{firstsBelow, cliquesBelow, productBelow, nodesOver}
+use Rattle.reduction.specs.Reduction.{Reduction, finalTable, finalNodes, reduction}
+use Rattle.reduction.proofs.Refined.{nodes-fit}
 use Rattle.reduction.proofs.Children.{ins-input, ins-output, outs-input, outs-output, ins-below, outs-below}
 use Rattle.reduction.proofs.Passes.{nodes-room, planes-room, line-room, too-wide, next}
-use Rattle.reduction.proofs.PassEnds.{read, small, At, wide-refused}
+use Rattle.reduction.proofs.PassEnds.{read, small, At, wide-refused, end-count, end-widths, end-words, end-narrow, answer-made}
 
 pub record Going (j : Job) (s : List ℕ) (i a b w at : ℕ) (zs os link widths words : List ℕ) : Type 0 where
   pub accepted : sheetRefusal j s ≡ 0
@@ -112,3 +115,26 @@ module _ (j : Job) (s : List ℕ) (i a b w at : ℕ) (zs os link widths words : 
               links = el;
               within = omega arith;
             }
+
+-- the end of the pass
+module _ (j : Job) (s : List ℕ) (i a b w at : ℕ) (zs os link widths words : List ℕ) (g : Going j s i a b w at zs os link widths words) (h : t j ≤ i) where
+  done : At j s (g .accepted) (t j) a b w at zs os widths words
+  done = let e : i ≡ t j = omega (arith, g .within) in rw e at (g .stage)
+
+  nodes-few : at ≤ 10240
+  unfolding finalNodes finalTable
+  nodes-few =
+      omega (arith, end-count j s (g .accepted) a b w at zs os widths words done, nodes-fit j s (g .accepted) (end-narrow j s (g .accepted) a b w at zs os widths words done))
+
+  pub at-small : at < 65536
+  at-small = omega (arith, nodes-few)
+
+  pub end-answer : (n : ℕ) → n ≡ at → _≡_ {A = Reduction} (record { refusal = 0; nodes = n }) (reduction j s)
+  end-answer n e =
+      answer-made j s n (g .accepted) (end-narrow j s (g .accepted) a b w at zs os widths words done) (e ∙ end-count j s (g .accepted) a b w at zs os widths words done)
+
+  pub widths-end : (i : ℕ) → i < t j → getD widths i 0 ≡ width j (finalTable j s) i
+  widths-end = end-widths j s (g .accepted) a b w at zs os widths words done
+
+  pub words-end : words ≡ sets (replicate 30720 0) 0 (nodeWords (finalNodes j s))
+  words-end = end-words j s (g .accepted) a b w at zs os widths words done

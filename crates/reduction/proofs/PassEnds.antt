@@ -191,3 +191,10 @@ module _ (j : Job) (s : List ℕ) where
   answer-made n e h is =
       let z = not-refused e h in
       ap₂ answers (sym z) (is ∙ sym (cond-yes (eqb (reductionRefusal j s) 0) (length (finalNodes j s)) 0 (eq-eqb (reductionRefusal j s) 0 z)))
+
+  -- a refusal is not 0
+  pub refused-not : (sheetRefusal j s ≡ 0 → ⊥) → reductionRefusal j s ≡ 0 → ⊥
+  refused-not h e = h (sym (refused-sheet h) ∙ e)
+
+  pub wide-not : sheetRefusal j s ≡ 0 → refuse7 j (table j s) ≡ true → reductionRefusal j s ≡ 0 → ⊥
+  wide-not e h z = let y = refused-7 e h in absurd (omega arith)

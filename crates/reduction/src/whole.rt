@@ -100,3 +100,77 @@ fn first_node(height: usize, count: usize) -> usize
     }
     2 + count
 }
+
+// The answer; where nothing is refused, widths and words hold the widths and the node words. Both are lent as zeros.
+pub fn make(
+    n: usize,
+    m: usize,
+    k: usize,
+    l: usize,
+    order: &[u8],
+    sheet: &[u8],
+    widths: &mut [u16; 20],
+    words: &mut [u16; 30720],
+) -> Reduction
+    requires { ⌜ (now widths ≡ replicate 20 0) × (now words ≡ replicate 30720 0) ⌝ }
+    ensures { λ r. ⌜ r ≡ reduction (job n m k l (now (order .entry))) (now (sheet .entry)) ⌝ }
+    ensures { λ _.
+        ⌜ (reductionRefusal (job n m k l (now (order .entry))) (now (sheet .entry)) ≡ 0
+        → (i : ℕ) → i < n + m → getD (now (widths .exit)) i 0 ≡ width (job n m k l (now (order .entry))) (finalTable (job n m k l (now (order .entry))) (now (sheet .entry))) i) ⌝ }
+    ensures { λ _.
+        ⌜ (reductionRefusal (job n m k l (now (order .entry))) (now (sheet .entry)) ≡ 0
+        → now (words .exit) ≡ sets (replicate 30720 0) 0 (nodeWords (finalNodes (job n m k l (now (order .entry))) (now (sheet .entry))))) ⌝ }
+{
+    let mut zero = [0u64; 1024];
+    let mut one = [0u64; 1024];
+    let r = planes(n, m, k, l, order, sheet, &mut zero, &mut one);
+    if r != 0 {
+        return Reduction {
+            refusal: r,
+            nodes: 0,
+        };
+    }
+    let mut link = [0u8; 262144];
+    let t = n + m;
+    let mut a = n;
+    let mut b = m;
+    let mut w = 1;
+    let mut at = 0;
+    let mut i = 0;
+    while i < t {
+        let input = is_input(order[i]);
+        let below = t - 1 - i;
+        a = inputs_below(input, a);
+        b = outputs_below(input, b);
+        let size = words_in(a);
+        let base = first_node(below, at + w);
+        let count = step(
+            input,
+            a,
+            b,
+            size,
+            w,
+            at,
+            narrow16(below + 1),
+            base,
+            &mut zero,
+            &mut one,
+            &mut link,
+            words,
+        );
+        if 512 < count {
+            return Reduction {
+                refusal: 7,
+                nodes: 0,
+            };
+        }
+        widths[below] = narrow16(count);
+        at += w;
+        w = count;
+        i += 1;
+    }
+    Reduction {
+        refusal: 0,
+        nodes: narrow16(at),
+    }
+}
