@@ -76,19 +76,18 @@ module _ (j : Job) (s : List ℕ) (i a b w at : ℕ) (zs os link widths words : 
     size-is = es ∙ ap size ins-is
 
     pub step-needs : (b′ ≤ 8) × (input ≡ false → b′ < 8) × (w ≤ 512) × (1 ≤ sz) × (w * 2 * sz ≤ 1024) × (length link ≡ 262144) × (at + w ≤ 10240) × (base ≤ 20000)
-    step-needs =
-        (
-          omega (arith, outs-is, outs-below j (read j s acc .order-whole) (read j s acc .inputs) (read j s acc .outputs) H (omega arith), read j s acc .outputs),
-          (λ e. rw outs-is
+    step-needs = (
+      omega (arith, outs-is, outs-below j (read j s acc .order-whole) (read j s acc .inputs) (read j s acc .outputs) H (omega arith), read j s acc .outputs),
+      (λ e. rw outs-is
           (line-room j (read j s acc .order-whole) (read j s acc .inputs) (read j s acc .outputs) (table j s) (small j s acc) i a b w at zs os widths words (g .stage) l (kind ∙ e))),
-          g .stage .few-columns,
-          rw size-is (pow-pos (ins j H - 3)),
-          rw size-is
+      g .stage .few-columns,
+      rw size-is (pow-pos (ins j H - 3)),
+      rw size-is
           (planes-room j (read j s acc .order-whole) (read j s acc .inputs) (read j s acc .outputs) (table j s) (small j s acc) i a b w at zs os widths words (g .stage) l),
-          g .links,
-          count-fits,
-          rw ebase (cond-both (λ x. x ≤ 20000) (eqb below 0) (omega arith) (omega (arith, count-fits))),
-        )
+      g .links,
+      count-fits,
+      rw ebase (cond-both (λ x. x ≤ 20000) (eqb below 0) (omega arith) (omega (arith, count-fits))),
+    )
 
     module _ (r : ℕ) (er : r ≡ cond (leb (length (firstsBelow input a′ b′ sz w zs os)) 512) (length (cliquesBelow input a′ b′ sz w zs os)) 513) where
       er-is : r ≡ cond (leb (length (firstsBelow input (ins j H) (outs j H) (size (ins j H)) w zs os)) 512) (length (cliquesBelow input (ins j H) (outs j H) (size (ins j H)) w zs os)) 513

@@ -43,4 +43,5 @@ pub mod NodeTable
 pub mod Passes
 pub mod PassEnds
 pub mod Going
+pub mod Copied
 pub mod Examples

@@ -11,14 +11,20 @@ mod walks;
 mod whole;
 
 ghost use mathlib.Core.Path.{_≡_};
+ghost use Rattle.sheet.specs.Job.{job};
+ghost use Rattle.reduction.specs.Reduction.{reduction, widthsAfter, wordsAfter};
 ghost use Rattle.reduction.specs.Walk.{walk};
 ghost use Rattle.reduction.specs.Compare.{sameColumns, compatibleColumns};
 ghost use Rattle.reduction.specs.Descent.{descent};
+use crate::casts::wide16;
+use crate::node_words::copy_widths;
+use crate::node_words::copy_words;
 use crate::walks::compatible_nodes;
 use crate::walks::descend;
 use crate::walks::less;
 use crate::walks::same_nodes;
 use crate::walks::walk_to;
+use crate::whole::make;
 
 // A node of the diagram: its height, its child for 0 and its child for 1. Child 0 is constant 0, child 1 constant 1; node 2 stands first.
 pub struct Node {
@@ -37,6 +43,33 @@ pub struct Reduction {
 pub struct Reached {
     pub node: u16,
     pub outputs: u32,
+}
+
+// The reduction of a job and its sheet: the least of refusals 1 to 7, or the number of nodes. Where nothing is refused widths[h] is the
+// width at height h, for 0 to t - 1, and words holds three words a node; else both are as they were.
+pub fn reduce(
+    n: usize,
+    m: usize,
+    k: usize,
+    l: usize,
+    order: &[u8],
+    sheet: &[u8],
+    widths: &mut [u16; 20],
+    words: &mut [u16; 30720],
+) -> Reduction
+    ensures { λ r. ⌜ r ≡ reduction (job n m k l (now (order .entry))) (now (sheet .entry)) ⌝ }
+    ensures { λ _. ⌜ now (widths .exit) ≡ widthsAfter (job n m k l (now (order .entry))) (now (sheet .entry)) (now (widths .entry)) ⌝ }
+    ensures { λ _. ⌜ now (words .exit) ≡ wordsAfter (job n m k l (now (order .entry))) (now (sheet .entry)) (now (words .entry)) ⌝ }
+{
+    let mut made_widths = [0u16; 20];
+    let mut made_words = [0u16; 30720];
+    let r = make(n, m, k, l, order, sheet, &mut made_widths, &mut made_words);
+    if r.refusal != 0 {
+        return r;
+    }
+    copy_widths(n + m, &made_widths, widths);
+    copy_words(wide16(r.nodes) * 3, &made_words, words);
+    r
 }
 
 // Where a walk from the node at the height ends; bit g of bits is the value of the variable at height g + 1.

@@ -13,10 +13,10 @@ ghost use Rattle.reduction.specs.Columns.{width};
 ghost use Rattle.reduction.specs.Diagram.{nodeWords};
 ghost use Rattle.reduction.specs.Packed.{size, packedWord, placesWith};
 ghost use Rattle.reduction.specs.Reduction.{reductionRefusal, finalTable, finalNodes, reduction};
+use crate::Reduction;
 use crate::casts::narrow16;
 use crate::heights::step;
 use crate::packed::pack;
-use crate::Reduction;
 
 // The planes of the sheet's table, where no refusal is given.
 fn planes(

@@ -28,10 +28,13 @@ returns : tie.Need-returns Inv-loop μ-loop
 returns c =
     let a = c .before .before .before .before .before .before .args in
     let j = job (a .n) (a .m) (a .k) (a .l) (a .order .now) in
-    let r = c .before .planes in
-    (answer-sheet j (a .sheet .now) (r .result) (r .ensures .0) (c .if1 .taken),
-    ((λ e. absurd (refused-not j (a .sheet .now) (λ z. c .if1 .taken (r .ensures .0 ∙ z)) e)),
-    (λ e. absurd (refused-not j (a .sheet .now) (λ z. c .if1 .taken (r .ensures .0 ∙ z)) e))))
+    let r = c .before .planes in (
+      answer-sheet j (a .sheet .now) (r .result) (r .ensures .0) (c .if1 .taken),
+      (
+        (λ e. absurd (refused-not j (a .sheet .now) (λ z. c .if1 .taken (r .ensures .0 ∙ z)) e)),
+        (λ e. absurd (refused-not j (a .sheet .now) (λ z. c .if1 .taken (r .ensures .0 ∙ z)) e)),
+      ),
+    )
 
 add-t : tie.Need-add-t Inv-loop μ-loop
 add-t c =
@@ -150,10 +153,13 @@ returns-2 c =
     let z = c .before .before .before .before .before .before .before .before .words-in in
     let n = c .before .before .before .before .before .before .before .first-node in
     let r = c .before .step in
-    let refused = stops j (a .sheet .now) (l .i) (l .a) (l .b) (l .w) (l .at) (l .zero) (l .one) (l .link) (l .widths) (l .words) (l .inv) lt (x .result) (x .ensures) _ refl (p .result) (q .result) (p .ensures) (q .ensures) (z .result) (z .ensures) (n .result) (n .ensures) (r .result) (r .ensures .0) (c .if2 .taken) in
-    (answer-7 j (a .sheet .now) (l .inv .accepted) refused,
-    ((λ e. absurd (wide-not j (a .sheet .now) (l .inv .accepted) refused e)),
-    (λ e. absurd (wide-not j (a .sheet .now) (l .inv .accepted) refused e))))
+    let refused = stops j (a .sheet .now) (l .i) (l .a) (l .b) (l .w) (l .at) (l .zero) (l .one) (l .link) (l .widths) (l .words) (l .inv) lt (x .result) (x .ensures) _ refl (p .result) (q .result) (p .ensures) (q .ensures) (z .result) (z .ensures) (n .result) (n .ensures) (r .result) (r .ensures .0) (c .if2 .taken) in (
+      answer-7 j (a .sheet .now) (l .inv .accepted) refused,
+      (
+        (λ e. absurd (wide-not j (a .sheet .now) (l .inv .accepted) refused e)),
+        (λ e. absurd (wide-not j (a .sheet .now) (l .inv .accepted) refused e)),
+      ),
+    )
 
 narrow16-requires-2 : tie.Need-narrow16-requires-2 Inv-loop μ-loop
 narrow16-requires-2 c κs = search needs

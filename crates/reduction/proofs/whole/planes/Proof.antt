@@ -28,10 +28,13 @@ pack-requires-2 c κs =
 returns : tie.Need-returns
 returns c =
     let a = c .before .before .before .before .before .before .before .before .before .before .before .args in
-    let f = c .before .before .before .before .before .before .before .fill-table in
-    (f .ensures .0,
-    ((λ z. c .before .before .before .pack .ensures ∙ ap (λ (s : List ℕ). puts 512 (packedWord (placesWith s (a .n) (a .m) 0)) (a .zero .now)) (f .ensures .1)),
-    (λ z. c .pack2 .ensures ∙ ap (λ (s : List ℕ). puts 512 (packedWord (placesWith s (a .n) (a .m) 1)) (a .one .now)) (f .ensures .1))))
+    let f = c .before .before .before .before .before .before .before .fill-table in (
+      f .ensures .0,
+      (
+        (λ z. c .before .before .before .pack .ensures ∙ ap (λ (s : List ℕ). puts 512 (packedWord (placesWith s (a .n) (a .m) 0)) (a .zero .now)) (f .ensures .1)),
+        (λ z. c .pack2 .ensures ∙ ap (λ (s : List ℕ). puts 512 (packedWord (placesWith s (a .n) (a .m) 1)) (a .one .now)) (f .ensures .1)),
+      ),
+    )
 
 returns-2 : tie.Need-returns-2
 returns-2 c = (c .before .fill-table .ensures .0, ((λ z. absurd (c .if1 .left z)), (λ z. absurd (c .if1 .left z))))
