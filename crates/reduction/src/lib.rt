@@ -34,6 +34,7 @@ pub struct Node {
 }
 
 // The answer to a job and its sheet: a refusal, 1 to 7, or 0 and the number of nodes.
+#[repr(C)]
 pub struct Reduction {
     pub refusal: u8,
     pub nodes: u16,

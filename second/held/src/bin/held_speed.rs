@@ -1,19 +1,22 @@
 //! Times the proved layers against `fast`, in one run: the same jobs, both built for release. Argument: jobs for each family.
 
-use held::{sheet_table, TABLE_BYTES};
-use second::fast::{read, Compiler};
+use held::{reduce, sheet_refusal, sheet_table, NODE_WORDS, TABLE_BYTES, WIDTHS};
+use second::fast::{self, read, Compiler};
 use second::generate::{job, Family};
 use second::job::Job;
+use second::plain;
 use std::process::ExitCode;
 use std::time::Instant;
 
+/// Microseconds of one run.
+fn time(run: &mut impl FnMut()) -> f64 {
+    let began = Instant::now();
+    run();
+    began.elapsed().as_secs_f64() * 1e6
+}
+
 /// The least of five times, in microseconds.
 fn least(mut run: impl FnMut()) -> f64 {
-    let time = |run: &mut dyn FnMut()| {
-        let began = Instant::now();
-        run();
-        began.elapsed().as_secs_f64() * 1e6
-    };
     (0..5).map(|_| time(&mut run)).fold(f64::MAX, f64::min)
 }
 
@@ -42,6 +45,54 @@ fn sheet(name: &str, jobs: &[Job]) {
     );
 }
 
+/// The sheet layer and the reduction together, on jobs that the sheet layer accepts. `plain` merges at every height
+/// but makes no nodes; it is run once a job, on one job in ten.
+fn reduction(name: &str, jobs: &[Job]) {
+    let accepted = |job: &&Job| sheet_refusal(job) == 0;
+    let jobs: Vec<&Job> = jobs.iter().filter(accepted).collect();
+    if jobs.is_empty() {
+        return;
+    }
+    let mut compiler = Compiler::new();
+    let mut widths = [0u16; WIDTHS];
+    let mut words = Box::new([0u16; NODE_WORDS]);
+    let (mut proved, mut rival, mut worst) = (0.0, 0.0, 0.0f64);
+    let (mut literal, mut literal_jobs, mut too_wide) = (0.0, 0, 0);
+    for (index, job) in jobs.iter().enumerate() {
+        too_wide += u32::from(reduce(job, &mut widths, &mut words).refusal == 7);
+        let one = least(|| {
+            reduce(job, &mut widths, &mut words);
+        });
+        let other = least(|| {
+            let _ = read(job, &mut compiler.table).and_then(|()| {
+                fast::reduce(
+                    &compiler.table,
+                    &mut compiler.reducer,
+                    &mut compiler.diagram,
+                )
+            });
+        });
+        proved += one;
+        rival += other;
+        worst = worst.max(one);
+        if index % 10 == 0 {
+            literal_jobs += 1;
+            literal += time(&mut || {
+                plain::widths_before_own_merges(job);
+            });
+        }
+    }
+    let count = jobs.len() as f64;
+    println!(
+        "| reduction | {name} | {} | {too_wide} | {:.1} | {:.1} | {:.2} | {worst:.1} | {:.0} |",
+        jobs.len(),
+        proved / count,
+        rival / count,
+        proved / rival,
+        literal / f64::from(literal_jobs)
+    );
+}
+
 fn main() -> ExitCode {
     let count = match std::env::args().nth(1).map(|text| text.parse::<u64>()) {
         None => 200,
@@ -51,12 +102,10 @@ fn main() -> ExitCode {
             return ExitCode::from(2);
         }
     };
-    println!("Microseconds a job, least of five; the buffers are not cleared between runs.");
-    println!("| layer | family | jobs | proved | fast | ratio | proved, worst |");
-    println!("|---|---|---|---|---|---|---|");
+    let mut rows: Vec<(&str, Vec<Job>)> = Vec::new();
     for family in Family::ALL {
-        let jobs: Vec<Job> = (0..count).map(|i| job(family, 1, i)).collect();
-        sheet(family.name(), &jobs);
+        let jobs = (0..count).map(|i| job(family, 1, i)).collect();
+        rows.push((family.name(), jobs));
     }
     // Sheets as long as they may be.
     let full = |family| {
@@ -64,9 +113,25 @@ fn main() -> ExitCode {
         jobs.filter(|j: &Job| j.sheet.len() == 2_048)
             .take(count as usize)
     };
-    let jobs: Vec<Job> = full(Family::LimitFewFree)
+    let jobs = full(Family::LimitFewFree)
         .chain(full(Family::LimitManyFree))
         .collect();
-    sheet("256 records, n 12, m 8", &jobs);
+    rows.push(("256 records, n 12, m 8", jobs));
+
+    println!("Microseconds a job, least of five; the buffers are not cleared between runs.");
+    println!("| layer | family | jobs | proved | fast | ratio | proved, worst |");
+    println!("|---|---|---|---|---|---|---|");
+    for (name, jobs) in &rows {
+        sheet(name, jobs);
+    }
+    println!();
+    println!("Sheet and reduction; plain in one run, on one job in ten.");
+    println!(
+        "| layer | family | jobs | refused 7 | proved | fast | ratio | proved, worst | plain |"
+    );
+    println!("|---|---|---|---|---|---|---|---|---|");
+    for (name, jobs) in &rows {
+        reduction(name, jobs);
+    }
     ExitCode::SUCCESS
 }
