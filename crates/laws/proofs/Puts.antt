@@ -3,14 +3,14 @@
 use mathlib.Core.Path.{_≡_, refl, sym, _∙_, ap, ap₂}
 use mathlib.Core.List.{List, [], _∷_, _++_}
 use Prim.Native.Nat.{ℕ, zero, suc, _+_, _*_, _<_, _≤_}
-use native.Mathlib.Nat.{not-suc-le-zero, add-zero}
+use native.Mathlib.Nat.{not-suc-le-zero, add-zero, zero-add}
 use native.Mathlib.Numerals.{add-one}
 use native.Mathlib.Omega.{arith}
 use lib.ListN.{length, getD, set, length-set, replicate, length-replicate, getD-replicate}
 use lib.Seq.{getD-set-same, getD-set-other, set-getD, sets, ext-getD}
 use Rattle.laws.specs.Lists.{tab, rect, filled, puts, putsAt}
 use Rattle.laws.proofs.Cases.{last-or-below, by-less}
-use Rattle.laws.proofs.Lists.{length-tab, length-rect}
+use Rattle.laws.proofs.Lists.{length-tab, length-rect, tab-ext}
 use Rattle.laws.proofs.Filled.{filled-more}
 
 module _ {A : Type 0} (f : ℕ → A) where
@@ -140,6 +140,14 @@ unfolding puts putsAt
 putsAt-sets f b zero l = refl
 putsAt-sets f b (suc n) l =
     ap₂ (λ (s : List _) (k : ℕ). set s (b + k) (f n)) (putsAt-sets f b n l) (sym (length-tab f n)) ∙ sym (sets-append (tab n f) (f n ∷ []) l b)
+
+pub puts-sets : (f : ℕ → ℕ) (n : ℕ) (l : List ℕ) → puts n f l ≡ sets l 0 (tab n f)
+puts-sets f n l =
+    ap (λ (k : ℕ). puts k f l) (sym (zero-add n)) ∙ sym (puts-run f 0 n l f (λ i h. ap f (sym (zero-add i))))
+    ∙ ap (λ (s : List ℕ). putsAt 0 n f s) (puts-none f l) ∙ putsAt-sets f 0 n l
+
+pub putsAt-ext : (f g : ℕ → ℕ) (b n : ℕ) (l : List ℕ) → ((i : ℕ) → i < n → f i ≡ g i) → putsAt b n f l ≡ putsAt b n g l
+putsAt-ext f g b n l h = putsAt-sets f b n l ∙ ap (sets l b) (tab-ext f g n h) ∙ sym (putsAt-sets g b n l)
 
 pub putsAt-rect : {A : Type 0} (F : ℕ → ℕ → A) (c m : ℕ) (l s : List A) → s ≡ sets l 0 (rect m c F) → putsAt (m * c) c (F m) s ≡ sets l 0 (rect (m + 1) c F)
 unfolding puts putsAt

@@ -4,7 +4,7 @@ use mathlib.Core.Path.{_≡_, refl, sym, _∙_, ap, ap₂}
 use mathlib.Core.Bool.{Bool, true, false, not, _&&_, and-assoc, and-true}
 use mathlib.Core.List.{List}
 use Prim.Native.Nat.{ℕ, zero, suc, _+_, _*_, _/_, _%_, _^_, _<_, _≤_}
-use native.Mathlib.Nat.{not-suc-le-zero, mod-lt, zero-div}
+use native.Mathlib.Nat.{mod-lt, zero-div}
 use native.Mathlib.Numerals.{add-one}
 use native.Mathlib.Omega.{arith}
 use borrow.Author.Tests.{eq-eqb, eqb-true, ne-eqb}
@@ -18,8 +18,7 @@ use Rattle.laws.specs.Lists.{puts, putsAt}
 use Rattle.laws.specs.Bits.{flag}
 use Rattle.laws.proofs.Cases.{by-equal, last-or-below, same-test}
 use Rattle.laws.proofs.Tests.{every-next, every-of, every-at}
-use Rattle.laws.proofs.Lists.{tab-ext}
-use Rattle.laws.proofs.Puts.{length-puts, getD-puts, putsAt-sets}
+use Rattle.laws.proofs.Puts.{length-puts, getD-puts, length-putsAt, getD-putsAt, getD-beforeAt}
 use Rattle.sheet.specs.Planes.{marks}
 use Rattle.reduction.specs.Bytes.{byteOf, byteAt, Short, Spread, Flags, other, byteAgree, agreeTo, narrowed}
 use Rattle.reduction.proofs.Hash.{or-flag}
@@ -48,30 +47,6 @@ unfolding marks
 marks-any f p zero h = refl
 marks-any f p (suc w) h = ap₂ bitOr (marks-any f p w (λ d l. h d (omega arith))) (h w (omega arith)) ∙ or-flag (any w p) (p w)
 
--- stores from place b on
-module _ (f : ℕ → ℕ) (b : ℕ) where
-  pub length-putsAt : (n : ℕ) (l : List ℕ) → length (putsAt b n f l) ≡ length l
-  unfolding putsAt
-  length-putsAt zero l = refl
-  length-putsAt (suc n) l = length-set (putsAt b n f l) (b + n) (f n) ∙ length-putsAt n l
-
-  pub getD-putsAt : (n : ℕ) (l : List ℕ) (i : ℕ) → i < n → b + n ≤ length l → getD (putsAt b n f l) (b + i) 0 ≡ f i
-  unfolding putsAt
-  getD-putsAt zero l i h k = absurd (not-suc-le-zero h)
-  getD-putsAt (suc n) l i h k =
-      last-or-below i n h
-      (λ e. rw e (getD-set-same (putsAt b n f l) (b + n) (f n) 0 (omega (arith, length-putsAt n l))))
-      (λ s. getD-set-other (putsAt b n f l) (b + n) (b + i) (f n) 0 (λ e. absurd (omega arith)) ∙ getD-putsAt n l i s (omega arith))
-
-  pub getD-putsAt-before : (n : ℕ) (l : List ℕ) (i : ℕ) → i < b → getD (putsAt b n f l) i 0 ≡ getD l i 0
-  unfolding putsAt
-  getD-putsAt-before zero l i h = refl
-  getD-putsAt-before (suc n) l i h =
-      getD-set-other (putsAt b n f l) (b + n) i (f n) 0 (λ e. absurd (omega arith)) ∙ getD-putsAt-before n l i h
-
-pub putsAt-ext : (f g : ℕ → ℕ) (b n : ℕ) (l : List ℕ) → ((i : ℕ) → i < n → f i ≡ g i) → putsAt b n f l ≡ putsAt b n g l
-putsAt-ext f g b n l h = putsAt-sets f b n l ∙ ap (sets l b) (tab-ext f g n h) ∙ sym (putsAt-sets g b n l)
-
 -- one byte more of the first words
 pub spread-next : (w : ℕ) (words : List ℕ) (size : ℕ) (ps : List ℕ) (n : ℕ) (l : List ℕ) → w ≤ 512 → n < 8 → Spread w words size ps n l → Short w words size ps
     → Spread w words size ps (n + 1) (putsAt (n * 512) w (byteAt words size ps n) l)
@@ -81,8 +56,8 @@ spread-next w words size ps n l hw hn s short =
       full = length-putsAt f (n * 512) w l ∙ s .full;
       byte = λ x c hx hc.
           last-or-below x n (omega arith)
-          (λ e. rw e (getD-putsAt f (n * 512) w l c hc (omega (arith, s .full))))
-          (λ k. getD-putsAt-before f (n * 512) w l (x * 512 + c) (omega arith) ∙ s .byte x c k hc);
+          (λ e. rw e (getD-putsAt f (n * 512) w l 0 c hc (omega (arith, s .full))))
+          (λ k. getD-beforeAt f (n * 512) w l 0 (x * 512 + c) (omega arith) ∙ s .byte x c k hc);
       short = λ x c hx hc. short c hc;
     }
 

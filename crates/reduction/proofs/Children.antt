@@ -54,10 +54,6 @@ words-high (x ∷ xs) (suc i) =
     let e : suc i * 3 + 2 ≡ suc (suc (suc (i * 3 + 2))) = omega arith in
     ap (λ (k : ℕ). getD (nodeWords (x ∷ xs)) k 0) e ∙ words-high xs i
 
-pub words-length : (xs : List Node) → length (nodeWords xs) ≡ length xs * 3
-words-length [] = refl
-words-length (x ∷ xs) = omega (arith, words-length xs)
-
 -- how many nodes there are
 module _ (j : Job) (f : List ℕ) (ls : List (List ℕ)) where
   height-length : (h : ℕ) → length (nodesTo j f ls (suc h)) ≡ widthIn ls (suc h) + length (nodesTo j f ls h)

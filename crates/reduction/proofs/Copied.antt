@@ -13,7 +13,7 @@ use Rattle.laws.specs.Lists.{tab, puts}
 use Rattle.laws.proofs.Cases.{by-test, by-equal, cond-yes, cond-no}
 use Rattle.laws.proofs.Filled.{laid}
 use Rattle.laws.proofs.Lists.{tab-of}
-use Rattle.laws.proofs.Puts.{puts-ext}
+use Rattle.laws.proofs.Puts.{puts-ext, puts-sets}
 use Rattle.sheet.specs.Job.{Job, t}
 use Rattle.sheet.specs.Refusals.{sheetRefusal}
 use Rattle.sheet.specs.Table.{table}
@@ -22,7 +22,6 @@ use Rattle.reduction.specs.Columns.{width}
 use Rattle.reduction.specs.Merge.{refuse7}
 use Rattle.reduction.specs.Diagram.{nodeWords}
 use Rattle.reduction.specs.Reduction.{Reduction, reductionRefusal, finalTable, finalWidths, finalNodes, reduction, widthsAfter, wordsAfter}
-use Rattle.reduction.proofs.Held.{puts-sets}
 use Rattle.reduction.proofs.NodeTable.{length-nodeWords}
 use Rattle.reduction.proofs.Refined.{nodes-fit}
 

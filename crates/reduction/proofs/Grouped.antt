@@ -34,10 +34,6 @@ equal-sym : (c d : ℕ) → eqb c d ≡ eqb d c
 equal-sym c d =
     by-equal c d (λ e. eq-eqb c d e ∙ sym (eq-eqb d c (sym e))) (λ e. ne-eqb c d e ∙ sym (ne-eqb d c (λ z. e (sym z))))
 
-and-twice : (x y : Bool) → (x && (x && y)) ≡ (x && y)
-and-twice true y = refl
-and-twice false y = refl
-
 agree-sym : (zs os : List ℕ) (s p q : ℕ) → agreeWords zs os s p q ≡ agreeWords zs os s q p
 unfolding agreeWords
 agree-sym zs os s p q =

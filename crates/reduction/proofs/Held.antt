@@ -16,23 +16,14 @@ use Rattle.laws.specs.Lists.{tab, puts, putsAt}
 use Rattle.laws.proofs.Cases.{by-test, by-less, last-or-below, cond-yes, cond-no, cond-each}
 use Rattle.laws.proofs.Find.{find-ext, least-le}
 use Rattle.laws.proofs.Lists.{row-end, tab-of}
-use Rattle.laws.proofs.Puts.{puts-none, puts-run, puts-ext, putsAt-sets}
+use Rattle.laws.proofs.Puts.{puts-ext, puts-sets}
 use Rattle.reduction.specs.Numbering.{indexIn, firstsOf}
 use Rattle.reduction.specs.Distinct.{sameWords}
 use Rattle.reduction.specs.Hash.{keyOf, isKept, Inside}
 use Rattle.reduction.proofs.Hash.{same-key}
-
--- stores from the front
-pub puts-sets : (f : ℕ → ℕ) (n : ℕ) (l : List ℕ) → puts n f l ≡ sets l 0 (tab n f)
-puts-sets f n l =
-    ap (λ (k : ℕ). puts k f l) (sym (zero-add n)) ∙ sym (puts-run f 0 n l f (λ i h. ap f (sym (zero-add i))))
-    ∙ ap (λ (s : List ℕ). putsAt 0 n f s) (puts-none f l) ∙ putsAt-sets f 0 n l
+use Rattle.reduction.proofs.Numbering.{index-most}
 
 module _ (R : ℕ → ℕ → Bool) where
-  pub index-le : (ps : List ℕ) (q : ℕ) → indexIn R ps q ≤ length ps
-  unfolding indexIn
-  index-le ps q = least-le (λ c. R q (getD ps c 0)) (length ps)
-
   pub firsts-old : (q : ℕ) → indexIn R (firstsOf R q) q < length (firstsOf R q) → firstsOf R (suc q) ≡ firstsOf R q
   unfolding firstsOf
   firsts-old q h = rw (lt-ltb (indexIn R (firstsOf R q) q) (length (firstsOf R q)) h)
@@ -79,7 +70,7 @@ module _ (R : ℕ → ℕ → Bool) (K : ℕ → ℕ) where
 
   module _ (q count : ℕ) (keys kept : List ℕ) (h : Held R K q count keys kept) (c : ℕ) (at : c ≡ indexIn R (firstsOf R q) q) where
     held-le : c ≤ count
-    held-le = omega (arith, index-le R (firstsOf R q) q, h .many)
+    held-le = omega (arith, index-most R (firstsOf R q) q, h .many)
 
     held-old : (c ≡ count → ⊥) → Held R K (q + 1) count keys kept
     held-old differ =

@@ -165,40 +165,6 @@ module _ (n a b : ℕ) (g : List ℕ) (few : b ≤ 8) (small : (i : ℕ) → get
       ap (λ (x : Bool). not (eqb c d) && x) (link-at (length ps) c d hc hd ∙ linked-is c d hc hd)
       ∙ and-twice (not (eqb c d)) (isIn (graph n a b g ps) (c * length ps + d)))
 
-  linked-sym : (c d : ℕ) → c < length ps → d < length ps → linkedWords zs os (size a) L c d ≡ linkedWords zs os (size a) L d c
-  linked-sym c d hc hd =
-      linked-is c d hc hd
-      ∙ ap₂ (λ (x y : Bool). not x && y) (equal-sym c d) (graph-sym n a b g c d hc hd)
-      ∙ sym (linked-is d c hd hc)
-    where
-      equal-sym : (c d : ℕ) → eqb c d ≡ eqb d c
-      equal-sym c d =
-          by-equal c d (λ e. eq-eqb c d e ∙ sym (eq-eqb d c (sym e))) (λ e. ne-eqb c d e ∙ sym (ne-eqb d c (λ z. e (sym z))))
-
-  pub links-sym : (c d : ℕ) → c < length L → d < length L
-      → isIn (rect (length L) (length L) (λ c d. flag (linkedWords zs os (size a) L c d))) (c * length L + d)
-      ≡ isIn (rect (length L) (length L) (λ c d. flag (linkedWords zs os (size a) L c d))) (d * length L + c)
-  links-sym c d hc hd =
-      link-at (length L) c d hc hd ∙ linked-sym c d (omega (arith, width-named)) (omega (arith, width-named)) ∙ sym (link-at (length L) d c hd hc)
-
-  -- without a link each column is a clique of its own
-  pub owners-apart : any (length L) (λ c. any (length L) (linkedWords zs os (size a) L c)) ≡ false → (c d : ℕ) → c < length L → d < length L
-      → sameOwner (cover (length ps) (graph n a b g ps)) c d ≡ eqb c d
-  unfolding sameOwner
-  owners-apart none c d hc hd =
-      let O = cover (length ps) (graph n a b g ps) in
-      let kc : c < length ps = omega (arith, width-named) in
-      let kd : d < length ps = omega (arith, width-named) in
-      by-equal c d
-      (λ e. eq-eqb (getD O c 0) (getD O d 0) (ap (λ (i : ℕ). getD O i 0) e) ∙ sym (eq-eqb c d e))
-      (λ e.
-      ne-eqb (getD O c 0) (getD O d 0) (λ z.
-      not-both
-      (linked-is c d kc kd
-      ∙ and-join (ap not (ne-eqb c d e)) (cover-clique (length ps) (graph n a b g ps) (graph-sym n a b g) c d kc kd e z))
-      (any-out (linkedWords zs os (size a) L c) (length L) (any-out (λ c. any (length L) (linkedWords zs os (size a) L c)) (length L) none c hc) d hd))
-      ∙ sym (ne-eqb c d e))
-
 -- the table after the merge, by the cliques' first columns
 module _ (n m a b : ℕ) (g : List ℕ) (ha : a ≤ n) (hb : b ≤ m) where
   abbrev qs : List ℕ

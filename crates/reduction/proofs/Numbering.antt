@@ -31,6 +31,10 @@ pub record Numbered (R : ℕ → ℕ → Bool) (p : ℕ) (ps : List ℕ) : Type 
   pub found : (q : ℕ) → q < p → indexIn R ps q < length ps
   pub smallest : (c q : ℕ) → c < length ps → q < getD ps c 0 → R q (getD ps c 0) ≡ false
 
+pub index-most : (R : ℕ → ℕ → Bool) (ps : List ℕ) (p : ℕ) → indexIn R ps p ≤ length ps
+unfolding indexIn
+index-most R ps p = least-le (λ c. R p (getD ps c 0)) (length ps)
+
 module _ (R : ℕ → ℕ → Bool) (equivalence : Equivalence R) where
   -- an index below the length names a related number, and it is the least that does
   pub index-same : (ps : List ℕ) (p : ℕ) → indexIn R ps p < length ps → R p (getD ps (indexIn R ps p) 0) ≡ true
@@ -40,10 +44,6 @@ module _ (R : ℕ → ℕ → Bool) (equivalence : Equivalence R) where
   pub index-of : (ps : List ℕ) (p c : ℕ) → c < length ps → R p (getD ps c 0) ≡ true → indexIn R ps p ≤ c
   unfolding indexIn
   index-of ps p c h e = least-of (λ c. R p (getD ps c 0)) (length ps) c h e
-
-  pub index-most : (ps : List ℕ) (p : ℕ) → indexIn R ps p ≤ length ps
-  unfolding indexIn
-  index-most ps p = least-le (λ c. R p (getD ps c 0)) (length ps)
 
   -- related numbers have the same index in any list
   pub index-equal : (ps : List ℕ) (p q : ℕ) → R p q ≡ true → indexIn R ps p ≡ indexIn R ps q
@@ -246,7 +246,7 @@ module _ (R : ℕ → ℕ → Bool) (equivalence : Equivalence R) where
       let len : length more ≡ length ps + 1 = length-append ps (q ∷ []) in
       let at : getD more (length ps) 0 ≡ q = getD-at ps q [] 0 (length ps) refl in
       let k = ltb-false (indexIn R ps q) (length ps) e in
-      let top : indexIn R ps q ≤ length ps = index-most ps q in
+      let top : indexIn R ps q ≤ length ps = index-most R ps q in
       ap (λ (s : List ℕ). indexIn R s q) (cond-no old ps (ps ++ (q ∷ [])) e)
       ∙ ap (indexIn R more) (sym at)
       ∙ index-first (suc q) more (numbered-new q ps n k) (length ps) (omega (arith, len))

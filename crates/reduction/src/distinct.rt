@@ -11,12 +11,7 @@ ghost use Rattle.laws.specs.Bits.{flag};
 ghost use Rattle.reduction.specs.Numbering.{indexIn, firstsOf};
 ghost use Rattle.reduction.specs.Distinct.{sameWords};
 ghost use Rattle.reduction.specs.Hash.{stirred, folded, keyOf, isKept, Inside};
-
-pub fn wide16(x: u16) -> usize
-    ensures { λ r. ⌜ (r ≡ x) × (r < 65536) ⌝ }
-{
-    x as usize
-}
+use crate::casts::wide16;
 
 // The words z and y stirred into k.
 fn stir(k: u64, z: u64, y: u64) -> u64

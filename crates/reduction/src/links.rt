@@ -12,7 +12,7 @@ ghost use Rattle.sheet.specs.Planes.{marks};
 ghost use Rattle.reduction.specs.Distinct.{agreeWords, linkedWords};
 ghost use Rattle.reduction.specs.Hash.{Inside};
 ghost use Rattle.reduction.specs.Bytes.{byteOf, byteAt, Short, Spread, Flags, other, agreeTo, narrowed, confirmed};
-use crate::distinct::wide16;
+use crate::casts::wide16;
 
 // Byte x of a word.
 fn byte_of(word: u64, x: usize) -> u8
