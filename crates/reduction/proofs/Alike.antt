@@ -67,9 +67,9 @@ module _ (w : ℕ) (g f : List ℕ)
       let fs = tab w (edges w f left) in
       let u = fewest w g es left w in
       let e : es ≡ fs = tab-ext (edges w g left) (edges w f left) w (edges-alike left) in
-      let open0 : u ≡ w → ⊥ = λ z. not-both some (any-none (isIn left) w (fewest-none w g es left w (omega arith) z)) in
+      let some-left : u ≡ w → ⊥ = λ z. not-both some (any-none (isIn left) w (fewest-none w g es left w (omega arith) z)) in
       grown-alike w es (candidates w g left u) (set (replicate w 0) u 1)
-      ∙ ap (λ (s : List ℕ). grown w f w es s (set (replicate w 0) u 1)) (candidates-alike left u (fewest-in w g es left w open0 .0))
+      ∙ ap (λ (s : List ℕ). grown w f w es s (set (replicate w 0) u 1)) (candidates-alike left u (fewest-in w g es left w some-left .0))
       ∙ ap (λ (u : ℕ). grown w f w es (candidates w f left u) (set (replicate w 0) u 1)) (fewest-alike es left w)
       ∙ ap (λ (es : List ℕ). grown w f w es (candidates w f left (fewest w f es left w)) (set (replicate w 0) (fewest w f es left w) 1)) e
 

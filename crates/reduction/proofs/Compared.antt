@@ -24,7 +24,7 @@ use Rattle.reduction.specs.Compatible.{opposite, compatible}
 use Rattle.reduction.specs.Diagram.{topValue, nodes, nodeOf}
 use Rattle.reduction.specs.Merge.{reduced, refuse7}
 use Rattle.reduction.specs.Walk.{lowOf, highOf}
-use Rattle.reduction.specs.Compare.{open0, sameNodes, compatibleNodes, sameColumns, compatibleColumns}
+use Rattle.reduction.specs.Compare.{neitherZero, sameNodes, compatibleNodes, sameColumns, compatibleColumns}
 use Rattle.reduction.proofs.Ruled.{Ruled}
 use Rattle.reduction.proofs.Refined.{reduced-ruled, nodes-fit}
 use Rattle.reduction.proofs.Children.{wordsOf, nodeFor, ins-input, ins-output, outs-input, outs-output, ins-below, node-from, node-positive, input-low, input-high, output-low, output-high, top-value}
@@ -78,14 +78,14 @@ module _ (ws : List ℕ) (h v u : ℕ) (hv : 1 ≤ v) (hu : 1 ≤ u) where
   u-not : eqb u 0 ≡ false
   u-not = ne-eqb u 0 (λ e. absurd (omega arith))
 
-  is-open : open0 v u ≡ true
+  is-open : neitherZero v u ≡ true
   is-open = rw (v-not, u-not) refl
 
-  right-shut : open0 v 0 ≡ false
+  right-shut : neitherZero v 0 ≡ false
   right-shut = rw v-not refl
 
   compatible-output : (x y : ℕ) → x < 3 → y < 3
-      → joint (open0 (lowAt x v) (lowAt y u)) (open0 (highAt x v) (highAt y u)) (compatibleNodes ws h (lowAt x v) (lowAt y u))
+      → joint (neitherZero (lowAt x v) (lowAt y u)) (neitherZero (highAt x v) (highAt y u)) (compatibleNodes ws h (lowAt x v) (lowAt y u))
       (compatibleNodes ws h (highAt x v) (highAt y u))
       ≡ (agreed && not (opposite x y))
   compatible-output zero zero p q = ap (λ (b : Bool). joint b false agreed (compatibleNodes ws h 0 0)) is-open
@@ -109,7 +109,7 @@ module _ (ws : List ℕ) (h v u : ℕ) (hv : 1 ≤ v) (hu : 1 ≤ u) where
 
 -- what the children lv and lu for 0 and hv and hu for 1 of two nodes at height h + 1 say
 abbrev said : List ℕ → ℕ → ℕ → ℕ → ℕ → ℕ → Bool
-said ws h lv lu hv hu = joint (open0 lv lu) (open0 hv hu) (compatibleNodes ws h lv lu) (compatibleNodes ws h hv hu)
+said ws h lv lu hv hu = joint (neitherZero lv lu) (neitherZero hv hu) (compatibleNodes ws h lv lu) (compatibleNodes ws h hv hu)
 
 said-equal : (ws : List ℕ) (h lv lu hv hu lv′ lu′ hv′ hu′ : ℕ) → lv ≡ lv′ → lu ≡ lu′ → hv ≡ hv′ → hu ≡ hu′
     → said ws h lv lu hv hu ≡ said ws h lv′ lu′ hv′ hu′

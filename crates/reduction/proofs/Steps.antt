@@ -11,7 +11,7 @@ use borrow.Author.Tests.{lt-ltb, le-ltb, eq-eqb, ne-eqb}
 use Rattle.sheet.specs.Job.{isInput}
 use Rattle.laws.proofs.Cases.{cond-yes, cond-no, cond-both}
 use Rattle.reduction.specs.Walk.{lowOf, highOf, child, walk}
-use Rattle.reduction.specs.Compare.{open0, sameNodes, compatibleNodes}
+use Rattle.reduction.specs.Compare.{neitherZero, sameNodes, compatibleNodes}
 
 -- what the children of two nodes say: those for 0 are open as l says and compatible as x says, those for 1 as r and y say
 abbrev pub joint : Bool → Bool → Bool → Bool → Bool
@@ -96,31 +96,31 @@ module _ (ws : List ℕ) where
         er′ ∙ ap₂ (sameNodes ws (h - 1)) ey′ ez′
         ∙ sym (same-children ∙ ap (λ (b : Bool). b && sameNodes ws (h - 1) (highOf ws v) (highOf ws u)) low)
 
-  pub compatible-bottom : (h v u : ℕ) (r : Bool) → h ≡ 0 → r ≡ open0 v u → r ≡ compatibleNodes ws h v u
+  pub compatible-bottom : (h v u : ℕ) (r : Bool) → h ≡ 0 → r ≡ neitherZero v u → r ≡ compatibleNodes ws h v u
   unfolding compatibleNodes
   compatible-bottom h v u r e er = rw e er
 
-  open-constant : (h v u : ℕ) → (ltb v 2 || ltb u 2) ≡ true → open0 v u ≡ compatibleNodes ws h v u
+  open-constant : (h v u : ℕ) → (ltb v 2 || ltb u 2) ≡ true → neitherZero v u ≡ compatibleNodes ws h v u
   unfolding compatibleNodes
   open-constant zero v u e = refl
-  open-constant (suc h) v u e = sym (cond-yes (ltb v 2 || ltb u 2) (open0 v u) _ e)
+  open-constant (suc h) v u e = sym (cond-yes (ltb v 2 || ltb u 2) (neitherZero v u) _ e)
 
-  pub compatible-left : (h v u : ℕ) (r : Bool) → v < 2 → r ≡ open0 v u → r ≡ compatibleNodes ws h v u
+  pub compatible-left : (h v u : ℕ) (r : Bool) → v < 2 → r ≡ neitherZero v u → r ≡ compatibleNodes ws h v u
   compatible-left h v u r l er = er ∙ open-constant h v u (ap (λ (b : Bool). b || ltb u 2) (lt-ltb v 2 l))
 
-  pub compatible-right : (h v u : ℕ) (r : Bool) → u < 2 → r ≡ open0 v u → r ≡ compatibleNodes ws h v u
+  pub compatible-right : (h v u : ℕ) (r : Bool) → u < 2 → r ≡ neitherZero v u → r ≡ compatibleNodes ws h v u
   compatible-right h v u r l er = er ∙ open-constant h v u (ap (λ (b : Bool). ltb v 2 || b) (lt-ltb u 2 l) ∙ or-true (ltb v 2))
 
   pub compatible-step : (h v u : ℕ) → 2 ≤ v → 2 ≤ u
       → compatibleNodes ws (suc h) v u
-      ≡ joint (open0 (lowOf ws v) (lowOf ws u)) (open0 (highOf ws v) (highOf ws u)) (compatibleNodes ws h (lowOf ws v) (lowOf ws u))
+      ≡ joint (neitherZero (lowOf ws v) (lowOf ws u)) (neitherZero (highOf ws v) (highOf ws u)) (compatibleNodes ws h (lowOf ws v) (lowOf ws u))
       (compatibleNodes ws h (highOf ws v) (highOf ws u))
   unfolding compatibleNodes
-  compatible-step h v u p q = cond-no (ltb v 2 || ltb u 2) (open0 v u) _ (neither v u p q)
+  compatible-step h v u p q = cond-no (ltb v 2 || ltb u 2) (neitherZero v u) _ (neither v u p q)
 
   -- lv, lu, hv and hu are the children of v and u
   module _ (h v u : ℕ) (n : h ≡ 0 → ⊥) (p : 2 ≤ v) (q : 2 ≤ u) (lv lu hv hu : ℕ) (elv : lv ≡ lowOf ws v) (elu : lu ≡ lowOf ws u)
-      (ehv : hv ≡ highOf ws v) (ehu : hu ≡ highOf ws u) (l r : Bool) (el : l ≡ open0 lv lu) (er : r ≡ open0 hv hu) where
+      (ehv : hv ≡ highOf ws v) (ehu : hu ≡ highOf ws u) (l r : Bool) (el : l ≡ neitherZero lv lu) (er : r ≡ neitherZero hv hu) where
     compatible-children : joint l r (compatibleNodes ws (h - 1) lv lu) (compatibleNodes ws (h - 1) hv hu) ≡ compatibleNodes ws h v u
     compatible-children =
         rw (el, er, elv, elu, ehv, ehu)

@@ -15,18 +15,18 @@ sameNodes ws (suc h) v u =
     cond (ltb v 2 || ltb u 2) (eqb v u) (low && high)
 
 -- neither is constant 0
-abbrev pub open0 : ℕ → ℕ → Bool
-open0 v u = not (eqb v 0 || eqb u 0)
+abbrev pub neitherZero : ℕ → ℕ → Bool
+neitherZero v u = not (eqb v 0 || eqb u 0)
 
 -- compatible columns: a value that either forbids has the child 0 there, and then the other value's children decide
 unfoldable pub compatibleNodes : List ℕ → ℕ → ℕ → ℕ → Bool
-compatibleNodes ws zero v u = open0 v u
+compatibleNodes ws zero v u = neitherZero v u
 compatibleNodes ws (suc h) v u =
     let low = compatibleNodes ws h (lowOf ws v) (lowOf ws u) in
     let high = compatibleNodes ws h (highOf ws v) (highOf ws u) in
-    let l = open0 (lowOf ws v) (lowOf ws u) in
-    let r = open0 (highOf ws v) (highOf ws u) in
-    cond (ltb v 2 || ltb u 2) (open0 v u) ((l || r) && (not l || low) && (not r || high))
+    let l = neitherZero (lowOf ws v) (lowOf ws u) in
+    let r = neitherZero (highOf ws v) (highOf ws u) in
+    cond (ltb v 2 || ltb u 2) (neitherZero v u) ((l || r) && (not l || low) && (not r || high))
 
 -- what is answered for any height: a diagram has at most 20, and nodes above that are neither
 unfoldable pub sameColumns : List ℕ → ℕ → ℕ → ℕ → Bool

@@ -5,7 +5,7 @@ ghost use lib.ListN.{length, getD};
 ghost use Rattle.laws.specs.Bits.{has};
 ghost use Rattle.sheet.specs.Job.{isInput};
 ghost use Rattle.reduction.specs.Walk.{lowOf, highOf, child, walk};
-ghost use Rattle.reduction.specs.Compare.{open0, sameNodes, compatibleNodes};
+ghost use Rattle.reduction.specs.Compare.{neitherZero, sameNodes, compatibleNodes};
 ghost use Rattle.reduction.specs.Descent.{descend};
 use crate::Reached;
 use crate::casts::long16;
@@ -102,7 +102,7 @@ pub fn same_nodes(words: &[u16; 30720], h: u8, v: u16, u: u16) -> bool
 
 // Neither node is constant 0.
 fn is_open(v: u16, u: u16) -> bool
-    ensures { λ r. ⌜ r ≡ open0 v u ⌝ }
+    ensures { λ r. ⌜ r ≡ neitherZero v u ⌝ }
 {
     if v == 0 {
         return false;
