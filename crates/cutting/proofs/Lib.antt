@@ -1,2 +1,3 @@
 -- The cutting layer's laws.
 pub mod Examples
+pub mod CellSizes

@@ -1,7 +1,7 @@
 -- Cells, their rows and bits (document 01, "Cuts, cells, rows"). A cell is known by its number of inputs and of outputs, rails counted.
 -- Assumes nothing.
 use Prim.Native.Nat.{ℕ, _+_, _*_, _^_}
-use mathlib.Core.Bool.{Bool, true, _&&_}
+use mathlib.Core.Bool.{Bool, true, cond, _&&_}
 use mathlib.Core.List.{List, [], _∷_}
 use lib.Dec.{leb}
 pub use Rattle.cutting.specs.declared.Cell.{Cell}
@@ -19,6 +19,13 @@ rows c = 2 ^ c .inputs
 
 unfoldable pub bits : Cell → ℕ
 bits c = rows c * c .outputs
+
+-- what the code answers of any cell: those of a cell that is not larger than the largest, else 0
+unfoldable pub usableRows : Cell → ℕ
+usableRows c = cond (fits 12 8 c) (rows c) 0
+
+unfoldable pub usableBits : Cell → ℕ
+usableBits c = cond (fits 12 8 c) (bits c) 0
 
 -- of several cells: each fits; the rows; the bits
 unfoldable pub allFit : ℕ → ℕ → List Cell → Bool
