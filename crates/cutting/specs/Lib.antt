@@ -3,6 +3,7 @@ pub mod Cells
 pub mod Cuts
 pub mod Choice
 pub mod Rows
+pub mod RowWalks
 pub mod Stored
 pub mod Run
 pub mod ReadWrite

@@ -1,4 +1,5 @@
 // The cutting layer: cells, the chosen cut list, rows, the stored form and the whole compiler. So far its definitions (specs/).
+mod cell_rows;
 
 ghost use mathlib.Core.Path.{_≡_};
 ghost use Rattle.cutting.specs.Cells.{fits, usableRows, usableBits};
