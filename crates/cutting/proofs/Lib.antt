@@ -1,4 +1,13 @@
 -- The cutting layer's laws.
+pub mod StoredCuts
+pub mod RailCounts
+pub mod OrderHeights
+pub mod CellRead
+pub mod RowRead
+pub mod Emits
+pub mod StoredWell
+pub mod ChosenCuts
+pub mod MadeCascade
 pub mod Examples
 pub mod CellSizes
 pub mod RowWalks

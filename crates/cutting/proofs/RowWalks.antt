@@ -37,6 +37,7 @@ use Rattle.reduction.proofs.Descents.{met, descent-is}
 use Rattle.cutting.specs.Cuts.{rails, railsAt, cellOutputs}
 use Rattle.cutting.specs.Rows.{emitted, rowOf, row}
 use Rattle.cutting.specs.RowWalks.{firstAt, rowFrom, nodeRow, walkedRow}
+use Rattle.cutting.proofs.RailCounts.{rails-enough}
 
 -- the node of column 0
 pub first-bottom : (j : Job) (ls : List (List ℕ)) → firstAt j ls 0 ≡ 1
@@ -46,15 +47,6 @@ first-bottom j ls = refl
 pub first-above : (j : Job) (ls : List (List ℕ)) (h : ℕ) → 1 ≤ h → firstAt j ls h ≡ 2 + nodesAbove j ls h
 unfolding firstAt
 first-above j ls h l = cond-no (eqb h 0) 1 (2 + nodesAbove j ls h) (ne-eqb h 0 (λ z. absurd (omega arith)))
-
--- a column's number stands in the rails
-pub rails-hold : (w : ℕ) → w ≤ 2 ^ rails w
-unfolding rails
-rails-hold w =
-    let p : ℕ → Bool = λ r. leb w (2 ^ r) in
-    by-less (least w p) w
-    (λ l. leb-true w (2 ^ least w p) (least-hit p w l))
-    (λ l. omega (arith, pow-mono l, lt-pow w))
 
 -- bits that start at r
 sum-moved : (f : ℕ → ℕ) (r d : ℕ) → sum d (λ i. f i * 2 ^ (r + i)) ≡ sum d (λ i. f i * 2 ^ i) * 2 ^ r
@@ -200,7 +192,7 @@ module _ (j : Job) (s : List ℕ) (e : sheetRefusal j s ≡ 0) (narrow : refuse7
   pub lower-fit : getD ws b 0 ≡ widthIn (layers j (reduced j (table j s))) b → widthIn (layers j (reduced j (table j s))) b ≤ 2 ^ railsAt j ws b
   unfolding railsAt
   lower-fit is =
-      rw (cond-no (eqb b (t j)) 0 (rails (getD ws b 0)) (ne-eqb b (t j) (λ z. absurd (omega arith)))) (rw (sym is) (rails-hold (getD ws b 0)))
+      rw (cond-no (eqb b (t j)) 0 (rails (getD ws b 0)) (ne-eqb b (t j) (λ z. absurd (omega arith)))) (rw (sym is) (rails-enough (getD ws b 0)))
 
   pub row-byte : getD ws b 0 ≡ widthIn (layers j (reduced j (table j s))) b → cellOutputs j ws a b ≤ 8
       → (i : ℕ) → row j (reduced j (table j s)) (layers j (reduced j (table j s))) ws a b i < 256

@@ -36,7 +36,8 @@ use Rattle.reduction.proofs.Children.{wordsOf, nodes-room}
 use Rattle.cutting.specs.Cuts.{rails, railsAt, cellInputs, cellOutputs}
 use Rattle.cutting.specs.Rows.{row, cellRows}
 use Rattle.cutting.specs.RowWalks.{firstAt, rowFrom, nodeRow, walkedRow}
-use Rattle.cutting.proofs.RowWalks.{first-above, rails-hold, row-walked, row-byte}
+use Rattle.cutting.proofs.RowWalks.{first-above, row-walked, row-byte}
+use Rattle.cutting.proofs.RailCounts.{rails-enough}
 
 -- words that are read the same make the same walks
 module _ (ws vs : List ℕ) (same : (i : ℕ) → getD ws i 0 ≡ getD vs i 0) (order : List ℕ) where
@@ -126,7 +127,7 @@ module _ (j : Job) (s : List ℕ) (e : sheetRefusal j s ≡ 0) (narrow : refuse7
         omega (arith, pow-pos (cond (eqb a (t j)) 0 (rails (getD ws a 0)))))
         (λ below.
         rw (cond-no (eqb a (t j)) 0 (rails (getD ws a 0)) (ne-eqb a (t j) below))
-        (rw (sym (is (omega arith))) (rails-hold (getD ws a 0))))
+        (rw (sym (is (omega arith))) (rails-enough (getD ws a 0))))
 
     -- the rows of the columns are among the cell's
     pub columns-fit : widthIn (layers j (reduced j (table j s))) a ≤ 2 ^ railsAt j ws a
