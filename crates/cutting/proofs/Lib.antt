@@ -13,3 +13,6 @@ pub mod CellSizes
 pub mod RowWalks
 pub mod RowSteps
 pub mod RowsWritten
+pub mod StoredCells
+pub mod CellsRead
+pub mod StoredParts

@@ -1,8 +1,11 @@
-// The cutting layer: cells, the chosen cut list, rows, the stored form and the whole compiler. So far its definitions (specs/).
+// The cutting layer: cells, the chosen cut list, rows, the stored form and the whole compiler. So far its definitions (specs/), cells, the
+// rows of a cell, and the test of stored cascades.
 mod cell_rows;
+mod formed;
 
 ghost use mathlib.Core.Path.{_≡_};
 ghost use Rattle.cutting.specs.Cells.{fits, usableRows, usableBits};
+ghost use Rattle.cutting.specs.Stored.{wellFormed};
 
 // A cell of a cascade by the number of its inputs and of its outputs, rails counted.
 pub struct Cell {
@@ -42,4 +45,11 @@ impl Cell {
         }
         0
     }
+}
+
+// The records and rows of a stored cascade are well formed.
+pub fn well_formed(records: &[u8], rows: &[u8]) -> bool
+    ensures { λ r. ⌜ r ≡ wellFormed (now (records .entry)) (now (rows .entry)) ⌝ }
+{
+    formed::formed(records, rows)
 }
