@@ -16,3 +16,8 @@ pub mod RowsWritten
 pub mod StoredCells
 pub mod CellsRead
 pub mod StoredParts
+pub mod RowLimit
+pub mod CutLists
+pub mod Better
+pub mod Ways
+pub mod WaysChosen

@@ -2,6 +2,7 @@
 pub mod Cells
 pub mod Cuts
 pub mod Choice
+pub mod Ways
 pub mod Rows
 pub mod RowWalks
 pub mod Stored

@@ -1,6 +1,7 @@
 // The cutting layer: cells, the chosen cut list, rows, the stored form and the whole compiler. So far its definitions (specs/), cells, the
-// rows of a cell, and the test of stored cascades.
+// ways from each height, the rows of a cell, and the test of stored cascades.
 mod cell_rows;
+mod choice;
 mod formed;
 
 ghost use mathlib.Core.Path.{_≡_};
