@@ -4,13 +4,13 @@ use mathlib.Core.Path.{_≡_, refl, sym, _∙_, ap}
 use mathlib.Core.Logic.{_⊎_, inl, inr}
 use mathlib.Core.Bool.{Bool, true, false, cond, _&&_, _||_, false≢true, true≢false}
 use mathlib.Core.List.{List, [], _∷_, List·Memᴰ, List·Memᴰ·head, List·Memᴰ·tail, List·Memᴰ·not-nil, List·Memᴰ·cases-cons}
-use Prim.Native.Nat.{ℕ, zero, suc, _+_, _-_, _<_, _≤_}
+use Prim.Native.Nat.{ℕ, _-_, _<_}
 use native.Mathlib.Omega.{arith}
-use lib.Dec.{eqb, leb, ltb}
+use lib.Dec.{eqb, ltb}
 use lib.ListN.{length}
-use borrow.Author.Tests.{ltb-true, ltb-false, lt-ltb, le-ltb, eq-eqb, ne-eqb, eqb-true}
-use Rattle.laws.proofs.Cases.{by-test, by-less, by-equal, either, and-split, and-join, and-left-no, no-test, cond-yes, cond-no}
-use Rattle.sheet.specs.Job.{Job, t}
+use borrow.Author.Tests.{lt-ltb, le-ltb, eq-eqb, ne-eqb}
+use Rattle.laws.proofs.Cases.{by-test, by-less, by-equal, either, no-test}
+use Rattle.sheet.specs.Job.{Job}
 use Rattle.cutting.specs.Cells.{bitTotal}
 use Rattle.cutting.specs.Cuts.{CutList, bottom, next, cellsOf}
 use Rattle.cutting.specs.Choice.{longer, admissible, better, isNone, best}

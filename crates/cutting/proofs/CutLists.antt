@@ -1,15 +1,11 @@
--- The members of `cutLists h` are the falling lists from h to 0, and what `best` picks among lists.
+-- The members of `cutLists h` are the falling lists from h to 0.
 -- Assumes nothing.
-use mathlib.Core.Path.{_≡_, refl, sym, _∙_, ap, subst}
-use mathlib.Core.Logic.{_⊎_, inl, inr}
-use mathlib.Core.Bool.{Bool, true, false, cond, _&&_, _||_, false≢true, true≢false}
-use mathlib.Core.List.{List, [], _∷_, _++_, map, List·Memᴰ, List·Memᴰ·head, List·Memᴰ·tail, List·Memᴰ·not-nil, List·Memᴰ·cases-cons, List·Memᴰ·append-cases, List·Memᴰ·eq-of-singleton, Memᴰ·append-left, Memᴰ·append-right}
-use Prim.Native.Nat.{ℕ, zero, suc, _+_, _-_, _<_, _≤_}
+use mathlib.Core.Path.{_≡_, refl, sym, ap, subst}
+use mathlib.Core.List.{List, [], _∷_, map, List·Memᴰ, List·Memᴰ·head, List·Memᴰ·tail, List·Memᴰ·not-nil, List·Memᴰ·cases-cons, List·Memᴰ·append-cases, List·Memᴰ·eq-of-singleton, Memᴰ·append-left, Memᴰ·append-right}
+use Prim.Native.Nat.{ℕ, zero, suc, _≤_}
 use native.Mathlib.Omega.{arith}
-use Rattle.laws.proofs.Cases.{by-test, either, last-or-below, and-split, and-join}
-use Rattle.sheet.specs.Job.{Job, t}
+use Rattle.laws.proofs.Cases.{either, last-or-below}
 use Rattle.cutting.specs.Cuts.{CutList, bottom, next, listsTo, cutLists}
-use Rattle.cutting.specs.Choice.{admissible, better, isNone, best}
 
 -- a list of lists, each put behind a
 map-member : {l : List ℕ} (a : ℕ) (ls : List (List ℕ)) → List·Memᴰ l ls → List·Memᴰ (a ∷ l) (map (λ k. a ∷ k) ls)

@@ -21,3 +21,4 @@ pub mod CutLists
 pub mod Better
 pub mod Ways
 pub mod WaysChosen
+pub mod ChoiceSteps

@@ -17,7 +17,8 @@ use Rattle.laws.proofs.Tests.{every-ext}
 use Rattle.laws.proofs.Counts.{sum-ext}
 use Rattle.sheet.specs.Job.{isInput}
 use Rattle.cutting.specs.Cells.{Cell, cell, fits, rows}
-use Rattle.cutting.specs.Stored.{StoredCell, Reading, recordCount, variable, cutByte, railByte, appended, withVariable, withCut, reading, storedCells, cellCount, noCell, cellAt, sizeOf, rowsBefore, rowCount, cellFormed, rowsFormed}
+use Rattle.cutting.specs.Stored.{StoredCell, Reading, recordCount, variable, cutByte, railByte, appended, withVariable, withCut, reading}
+use Rattle.cutting.specs.Stored.{storedCells, cellCount, noCell, cellAt, sizeOf, rowsBefore, rowCount, cellFormed, rowsFormed}
 
 -- the reading after i records: of the cell begun its inputs and outputs in number, with record i's variable, and its upper rails
 abbrev pub begunIns : List ℕ → ℕ → ℕ
@@ -31,6 +32,17 @@ moreIns R i = cond (isInput (variable R i)) (begunIns R i + 1) (begunIns R i)
 
 abbrev pub moreOuts : List ℕ → ℕ → ℕ
 moreOuts R i = cond (isInput (variable R i)) (begunOuts R i) (begunOuts R i + 1)
+
+-- inputs and outputs, rails counted, of the cell that a cut below record i ends
+abbrev pub endInputs : List ℕ → ℕ → ℕ
+endInputs R i = reading R i .upper + moreIns R i
+
+abbrev pub endOutputs : List ℕ → ℕ → ℕ
+endOutputs R i = moreOuts R i + railByte R i
+
+-- the cells ended
+abbrev pub cellsTo : List ℕ → ℕ → List StoredCell
+cellsTo R i = reading R i .ended
 
 -- the cell that a cut below record i ends
 abbrev pub endedCell : List ℕ → ℕ → StoredCell
@@ -46,8 +58,12 @@ length-no : (b : Bool) (l : List ℕ) (v : ℕ) → length (appended (not b) l v
 length-no true l v = refl
 length-no false l v = length-append l (v ∷ [])
 
+-- the reading with record i, whether or not a cut lies below
+abbrev readWith : Bool → List ℕ → ℕ → Reading
+readWith b R i = let s = withVariable (reading R i) (variable R i) in cond b (withCut s (railByte R i)) s
+
 module _ (R : List ℕ) (i : ℕ) where
-  pub ended-size : sizeOf (endedCell R i) ≡ cell (reading R i .upper + moreIns R i) (moreOuts R i + railByte R i)
+  pub ended-size : sizeOf (endedCell R i) ≡ cell (endInputs R i) (endOutputs R i)
   unfolding sizeOf withVariable
   ended-size =
       ap₂ (λ (a b : ℕ). cell (reading R i .upper + a) (b + railByte R i)) (length-yes (isInput (variable R i)) (reading R i .ins) (variable R i))
@@ -57,7 +73,7 @@ module _ (R : List ℕ) (i : ℕ) where
   unfolding reading withVariable withCut
   next-ins = rw (add-one i) (by (eqb (cutByte R i) 1))
     where
-      by : (b : Bool) → length (cond b (withCut (withVariable (reading R i) (variable R i)) (railByte R i)) (withVariable (reading R i) (variable R i)) .ins) ≡ cond b 0 (moreIns R i)
+      by : (b : Bool) → length (readWith b R i .ins) ≡ cond b 0 (moreIns R i)
       by true = refl
       by false = length-yes (isInput (variable R i)) (reading R i .ins) (variable R i)
 
@@ -65,7 +81,7 @@ module _ (R : List ℕ) (i : ℕ) where
   unfolding reading withVariable withCut
   next-outs = rw (add-one i) (by (eqb (cutByte R i) 1))
     where
-      by : (b : Bool) → length (cond b (withCut (withVariable (reading R i) (variable R i)) (railByte R i)) (withVariable (reading R i) (variable R i)) .outs) ≡ cond b 0 (moreOuts R i)
+      by : (b : Bool) → length (readWith b R i .outs) ≡ cond b 0 (moreOuts R i)
       by true = refl
       by false = length-no (isInput (variable R i)) (reading R i .outs) (variable R i - 128)
 
@@ -73,16 +89,16 @@ module _ (R : List ℕ) (i : ℕ) where
   unfolding reading withVariable withCut
   next-upper = rw (add-one i) (by (eqb (cutByte R i) 1))
     where
-      by : (b : Bool) → cond b (withCut (withVariable (reading R i) (variable R i)) (railByte R i)) (withVariable (reading R i) (variable R i)) .upper ≡ cond b (railByte R i) (reading R i .upper)
+      by : (b : Bool) → readWith b R i .upper ≡ cond b (railByte R i) (reading R i .upper)
       by true = refl
       by false = refl
 
-  pub next-ended : reading R (i + 1) .ended ≡ cond (eqb (cutByte R i) 1) (reading R i .ended ++ (endedCell R i ∷ [])) (reading R i .ended)
+  pub next-ended : cellsTo R (i + 1) ≡ cond (eqb (cutByte R i) 1) (cellsTo R i ++ (endedCell R i ∷ [])) (cellsTo R i)
   unfolding reading withVariable withCut
   next-ended = rw (add-one i) (by (eqb (cutByte R i) 1))
     where
-      by : (b : Bool) → cond b (withCut (withVariable (reading R i) (variable R i)) (railByte R i)) (withVariable (reading R i) (variable R i)) .ended
-          ≡ cond b (reading R i .ended ++ (endedCell R i ∷ [])) (reading R i .ended)
+      by : (b : Bool) → readWith b R i .ended
+          ≡ cond b (cellsTo R i ++ (endedCell R i ∷ [])) (cellsTo R i)
       by true = refl
       by false = refl
 
@@ -155,57 +171,57 @@ module _ (bytes : List ℕ) (cs : List StoredCell) (c : StoredCell) where
 
 -- one record more
 module _ (R : List ℕ) (i : ℕ) where
-  pub fit-next : fitAll (reading R (i + 1) .ended)
-      ≡ (fitAll (reading R i .ended) && cond (eqb (cutByte R i) 1) (leb (reading R i .upper + moreIns R i) 12 && leb (moreOuts R i + railByte R i) 8) true)
+  pub fit-next : fitAll (cellsTo R (i + 1))
+      ≡ (fitAll (cellsTo R i) && cond (eqb (cutByte R i) 1) (leb (endInputs R i) 12 && leb (endOutputs R i) 8) true)
   unfolding fits
   fit-next = ap fitAll (next-ended R i) ∙ by (eqb (cutByte R i) 1)
     where
-      by : (b : Bool) → fitAll (cond b (reading R i .ended ++ (endedCell R i ∷ [])) (reading R i .ended))
-          ≡ (fitAll (reading R i .ended) && cond b (leb (reading R i .upper + moreIns R i) 12 && leb (moreOuts R i + railByte R i) 8) true)
+      by : (b : Bool) → fitAll (cond b (cellsTo R i ++ (endedCell R i ∷ [])) (cellsTo R i))
+          ≡ (fitAll (cellsTo R i) && cond b (leb (endInputs R i) 12 && leb (endOutputs R i) 8) true)
       by true =
-          fit-one-more (reading R i .ended) (endedCell R i) ∙ ap (λ (d : Cell). fitAll (reading R i .ended) && fits 12 8 d) (ended-size R i)
-      by false = sym (and-true (fitAll (reading R i .ended)))
+          fit-one-more (cellsTo R i) (endedCell R i) ∙ ap (λ (d : Cell). fitAll (cellsTo R i) && fits 12 8 d) (ended-size R i)
+      by false = sym (and-true (fitAll (cellsTo R i)))
 
-  pub rows-next : rowSum (reading R (i + 1) .ended) ≡ rowSum (reading R i .ended) + cond (eqb (cutByte R i) 1) (2 ^ (reading R i .upper + moreIns R i)) 0
+  pub rows-next : rowSum (cellsTo R (i + 1)) ≡ rowSum (cellsTo R i) + cond (eqb (cutByte R i) 1) (2 ^ endInputs R i) 0
   unfolding rows
   rows-next = ap rowSum (next-ended R i) ∙ by (eqb (cutByte R i) 1)
     where
-      by : (b : Bool) → rowSum (cond b (reading R i .ended ++ (endedCell R i ∷ [])) (reading R i .ended))
-          ≡ rowSum (reading R i .ended) + cond b (2 ^ (reading R i .upper + moreIns R i)) 0
-      by true = rows-one-more (reading R i .ended) (endedCell R i) ∙ ap (λ (d : Cell). rowSum (reading R i .ended) + rows d) (ended-size R i)
-      by false = sym (add-zero (rowSum (reading R i .ended)))
+      by : (b : Bool) → rowSum (cond b (cellsTo R i ++ (endedCell R i ∷ [])) (cellsTo R i))
+          ≡ rowSum (cellsTo R i) + cond b (2 ^ endInputs R i) 0
+      by true = rows-one-more (cellsTo R i) (endedCell R i) ∙ ap (λ (d : Cell). rowSum (cellsTo R i) + rows d) (ended-size R i)
+      by false = sym (add-zero (rowSum (cellsTo R i)))
 
-  pub bytes-next : (bytes : List ℕ) → bytesFit bytes (reading R (i + 1) .ended)
-      ≡ (bytesFit bytes (reading R i .ended) && cond (eqb (cutByte R i) 1) (rowsBelow bytes (rowSum (reading R i .ended)) (2 ^ (reading R i .upper + moreIns R i)) (2 ^ (moreOuts R i + railByte R i))) true)
+  pub bytes-next : (bytes : List ℕ) → bytesFit bytes (cellsTo R (i + 1))
+      ≡ (bytesFit bytes (cellsTo R i) && cond (eqb (cutByte R i) 1) (rowsBelow bytes (rowSum (cellsTo R i)) (2 ^ endInputs R i) (2 ^ endOutputs R i)) true)
   unfolding rows
   bytes-next bytes = ap (bytesFit bytes) (next-ended R i) ∙ by (eqb (cutByte R i) 1)
     where
-      by : (b : Bool) → bytesFit bytes (cond b (reading R i .ended ++ (endedCell R i ∷ [])) (reading R i .ended))
-          ≡ (bytesFit bytes (reading R i .ended) && cond b (rowsBelow bytes (rowSum (reading R i .ended)) (2 ^ (reading R i .upper + moreIns R i)) (2 ^ (moreOuts R i + railByte R i))) true)
+      by : (b : Bool) → bytesFit bytes (cond b (cellsTo R i ++ (endedCell R i ∷ [])) (cellsTo R i))
+          ≡ (bytesFit bytes (cellsTo R i) && cond b (rowsBelow bytes (rowSum (cellsTo R i)) (2 ^ endInputs R i) (2 ^ endOutputs R i)) true)
       by true =
-          bytes-one-more bytes (reading R i .ended) (endedCell R i)
-          ∙ ap (λ (d : Cell). bytesFit bytes (reading R i .ended) && rowsBelow bytes (rowSum (reading R i .ended)) (rows d) (2 ^ d .outputs)) (ended-size R i)
-      by false = sym (and-true (bytesFit bytes (reading R i .ended)))
+          bytes-one-more bytes (cellsTo R i) (endedCell R i)
+          ∙ ap (λ (d : Cell). bytesFit bytes (cellsTo R i) && rowsBelow bytes (rowSum (cellsTo R i)) (rows d) (2 ^ d .outputs)) (ended-size R i)
+      by false = sym (and-true (bytesFit bytes (cellsTo R i)))
 
 -- no record read; all records read
-pub begin : (R : List ℕ) → (fitAll (reading R 0 .ended) ≡ true) × (rowSum (reading R 0 .ended) ≡ 0)
+pub begin : (R : List ℕ) → (fitAll (cellsTo R 0) ≡ true) × (rowSum (cellsTo R 0) ≡ 0)
     × (begunIns R 0 ≡ 0) × (begunOuts R 0 ≡ 0) × (reading R 0 .upper ≡ 0)
 unfolding fitAll rowSum reading
 begin R = (refl, refl, refl, refl, refl)
 
-pub bytes-begin : (bytes R : List ℕ) → bytesFit bytes (reading R 0 .ended) ≡ true
+pub bytes-begin : (bytes R : List ℕ) → bytesFit bytes (cellsTo R 0) ≡ true
 unfolding bytesFit reading
 bytes-begin bytes R = refl
 
-pub fit-all : (R : List ℕ) → fitAll (reading R (recordCount R) .ended) ≡ every (cellCount R) (cellFormed R)
+pub fit-all : (R : List ℕ) → fitAll (cellsTo R (recordCount R)) ≡ every (cellCount R) (cellFormed R)
 unfolding fitAll cellCount cellFormed cellAt storedCells
 fit-all R = refl
 
-pub rows-all : (R : List ℕ) → rowSum (reading R (recordCount R) .ended) ≡ rowCount R
+pub rows-all : (R : List ℕ) → rowSum (cellsTo R (recordCount R)) ≡ rowCount R
 unfolding rowSum rowCount rowsBefore cellCount cellAt storedCells
 rows-all R = refl
 
-pub bytes-all : (bytes R : List ℕ) → bytesFit bytes (reading R (recordCount R) .ended) ≡ every (cellCount R) (rowsFormed R bytes)
+pub bytes-all : (bytes R : List ℕ) → bytesFit bytes (cellsTo R (recordCount R)) ≡ every (cellCount R) (rowsFormed R bytes)
 unfolding bytesFit rowsBelow rowsFormed rowsBefore cellCount cellAt storedCells
 bytes-all bytes R = refl
 
@@ -226,35 +242,35 @@ begun-few R (suc i) =
     by false false h = (omega arith, omega arith)
 
 -- where all cells fit, those ended fit
-pub fit-fewer : (R : List ℕ) (i n : ℕ) → i ≤ n → fitAll (reading R n .ended) ≡ true → fitAll (reading R i .ended) ≡ true
-fit-fewer R i zero l h = let e : i ≡ 0 = omega arith in ap (λ (k : ℕ). fitAll (reading R k .ended)) e ∙ h
+pub fit-fewer : (R : List ℕ) (i n : ℕ) → i ≤ n → fitAll (cellsTo R n) ≡ true → fitAll (cellsTo R i) ≡ true
+fit-fewer R i zero l h = let e : i ≡ 0 = omega arith in ap (λ (k : ℕ). fitAll (cellsTo R k)) e ∙ h
 fit-fewer R i (suc n) l h =
-    last-or-below i (suc n) (omega arith) (λ e. ap (λ (k : ℕ). fitAll (reading R k .ended)) e ∙ h)
+    last-or-below i (suc n) (omega arith) (λ e. ap (λ (k : ℕ). fitAll (cellsTo R k)) e ∙ h)
     (λ k.
-    let f = sym (fit-next R n) ∙ ap (λ (q : ℕ). fitAll (reading R q .ended)) (add-one n) ∙ h in
-    fit-fewer R i n (omega arith) (and-split (fitAll (reading R n .ended)) _ f .0))
+    let f = sym (fit-next R n) ∙ ap (λ (q : ℕ). fitAll (cellsTo R q)) (add-one n) ∙ h in
+    fit-fewer R i n (omega arith) (and-split (fitAll (cellsTo R n)) _ f .0))
 
-pub rows-rise : (R : List ℕ) (i n : ℕ) → i ≤ n → rowSum (reading R i .ended) ≤ rowSum (reading R n .ended)
-rows-rise R i zero l = let e : i ≡ 0 = omega arith in let f = ap (λ (k : ℕ). rowSum (reading R k .ended)) e in omega (arith, f)
+pub rows-rise : (R : List ℕ) (i n : ℕ) → i ≤ n → rowSum (cellsTo R i) ≤ rowSum (cellsTo R n)
+rows-rise R i zero l = let e : i ≡ 0 = omega arith in let f = ap (λ (k : ℕ). rowSum (cellsTo R k)) e in omega (arith, f)
 rows-rise R i (suc n) l =
-    last-or-below i (suc n) (omega arith) (λ e. let f = ap (λ (k : ℕ). rowSum (reading R k .ended)) e in omega (arith, f))
+    last-or-below i (suc n) (omega arith) (λ e. let f = ap (λ (k : ℕ). rowSum (cellsTo R k)) e in omega (arith, f))
     (λ k.
-    let f = ap (λ (q : ℕ). rowSum (reading R q .ended)) (sym (add-one n)) ∙ rows-next R n in
+    let f = ap (λ (q : ℕ). rowSum (cellsTo R q)) (sym (add-one n)) ∙ rows-next R n in
     let h = rows-rise R i n (omega arith) in
     omega (arith, f, h))
 
 -- a cell that fits
 module _ (R : List ℕ) (fit : every (cellCount R) (cellFormed R) ≡ true) (i : ℕ) (l : i < recordCount R) (c : cutByte R i ≡ 1) where
-  pub cell-small : (reading R i .upper + moreIns R i ≤ 12) × (moreOuts R i + railByte R i ≤ 8)
+  pub cell-small : (endInputs R i ≤ 12) × (endOutputs R i ≤ 8)
   cell-small =
       let a = fit-fewer R (i + 1) (recordCount R) (omega arith) (fit-all R ∙ fit) in
-      let b = and-split (fitAll (reading R i .ended)) _ (sym (fit-next R i) ∙ a) .1 in
-      let d = sym (cond-yes (eqb (cutByte R i) 1) (leb (reading R i .upper + moreIns R i) 12 && leb (moreOuts R i + railByte R i) 8) true (eq-eqb (cutByte R i) 1 c)) ∙ b in
-      let e = and-split (leb (reading R i .upper + moreIns R i) 12) (leb (moreOuts R i + railByte R i) 8) d in
-      (leb-true (reading R i .upper + moreIns R i) 12 (e .0), leb-true (moreOuts R i + railByte R i) 8 (e .1))
+      let b = and-split (fitAll (cellsTo R i)) _ (sym (fit-next R i) ∙ a) .1 in
+      let d = sym (cond-yes (eqb (cutByte R i) 1) (leb (endInputs R i) 12 && leb (endOutputs R i) 8) true (eq-eqb (cutByte R i) 1 c)) ∙ b in
+      let e = and-split (leb (endInputs R i) 12) (leb (endOutputs R i) 8) d in
+      (leb-true (endInputs R i) 12 (e .0), leb-true (endOutputs R i) 8 (e .1))
 
-  pub cell-inside : rowSum (reading R i .ended) + 2 ^ (reading R i .upper + moreIns R i) ≤ rowCount R
+  pub cell-inside : rowSum (cellsTo R i) + 2 ^ endInputs R i ≤ rowCount R
   cell-inside =
       let a = rows-rise R (i + 1) (recordCount R) (omega arith) in
-      let b = rows-next R i ∙ ap (λ (x : ℕ). rowSum (reading R i .ended) + x) (cond-yes (eqb (cutByte R i) 1) (2 ^ (reading R i .upper + moreIns R i)) 0 (eq-eqb (cutByte R i) 1 c)) in
+      let b = rows-next R i ∙ ap (λ (x : ℕ). rowSum (cellsTo R i) + x) (cond-yes (eqb (cutByte R i) 1) (2 ^ endInputs R i) 0 (eq-eqb (cutByte R i) 1 c)) in
       omega (arith, a, b, rows-all R)

@@ -2,19 +2,21 @@
 -- Assumes nothing.
 use mathlib.Core.Path.{_≡_, refl, sym, _∙_, ap, ap₂}
 use mathlib.Core.Logic.{_⊎_, inl, inr}
-use mathlib.Core.Bool.{Bool, true, false, cond, _&&_, _||_, true≢false}
-use mathlib.Core.List.{List, [], _∷_, _++_}
-use Prim.Native.Nat.{ℕ, zero, suc, _+_, _-_, _<_, _≤_}
+use mathlib.Core.Bool.{Bool, true, false, true≢false}
+use mathlib.Core.List.{[]}
+use Prim.Native.Nat.{ℕ, zero, suc, _+_, _*_, _^_, _<_, _≤_}
+use native.Mathlib.Nat.{mul-le-mul, le-trans}
 use native.Mathlib.Numerals.{add-one}
 use native.Mathlib.Omega.{arith}
-use lib.Dec.{eqb, ltb}
+use lib.Dec.{leb, ltb}
 use lib.ListN.{length, getD, length-append, List·getD-append}
 use lib.Seq.{getD-at}
-use borrow.Author.Tests.{ltb-true, ltb-false, lt-ltb, le-ltb, eq-eqb, ne-eqb}
-use Rattle.laws.proofs.Cases.{by-test, by-less, either, last-or-below, cond-yes, cond-no, and-split, and-join, and-left-no}
-use Rattle.cutting.specs.Cells.{Cell, fits, bits}
+use lib.Pow.{pow-mono}
+use borrow.Author.Tests.{leb-true, ltb-true, ltb-false, le-ltb, ne-eqb}
+use Rattle.laws.proofs.Cases.{by-test, by-less, either, last-or-below, and-split}
+use Rattle.cutting.specs.Cells.{Cell, fits, bits, rows}
 use Rattle.cutting.specs.Ways.{Way, noWay, bottomWay, fewer, through, goes, withCutAt, wayBelow, ways, wayFrom}
-use Rattle.cutting.proofs.Better.{first, first-less, first-same, first-more, first-yes, first-no}
+use Rattle.cutting.proofs.Better.{first, first-same, first-more, first-yes, first-no}
 
 -- u = (a, c) comes before v = (b, d), and (e, f) not before v: then not before u
 before-both : (a b c d e f : ℕ) (x y : Bool) → first a b (ltb c d) ≡ true → first e b (first f d x) ≡ false → first e a (first f c y) ≡ false
@@ -54,7 +56,7 @@ module _ (C : ℕ → ℕ → Cell) (k l : ℕ) where
   unfolding wayBelow
   below-ext F G h zero e = refl
   below-ext F G h (suc n) e =
-      ap₂ (λ (w v : Way). withCutAt C k l h n w v) (e n (omega arith)) (below-ext F G h n (λ g p. e g (omega arith)))
+      ap₂ (λ (w v : Way). withCutAt k l (C h n) n w v) (e n (omega arith)) (below-ext F G h n (λ g p. e g (omega arith)))
 
   pub way-bottom : wayFrom C k l 0 ≡ bottomWay
   unfolding ways wayFrom
@@ -67,25 +69,25 @@ module _ (C : ℕ → ℕ → Cell) (k l : ℕ) where
       ∙ below-ext (λ g. getD (ways C k l h) g noWay) (wayFrom C k l) (suc h) (suc h) (λ g p. ways-at h g (omega arith))
 
   -- one more cut to go through
-  pub below-next : (F : ℕ → Way) (h g : ℕ) → wayBelow C k l F h (g + 1) ≡ withCutAt C k l h g (F g) (wayBelow C k l F h g)
+  pub below-next : (F : ℕ → Way) (h g : ℕ) → wayBelow C k l F h (g + 1) ≡ withCutAt k l (C h g) g (F g) (wayBelow C k l F h g)
   unfolding wayBelow
   below-next F h g = rw add-one refl
 
   -- no way goes through a cut below n
   abbrev pub Blocked : (ℕ → Way) → ℕ → ℕ → Way → Type 0
-  Blocked F h n v = (v ≡ noWay) × ((g : ℕ) → g < n → goes C k l h g (F g) ≡ false)
+  Blocked F h n v = (v ≡ noWay) × ((g : ℕ) → g < n → goes k l (C h g) (F g) ≡ false)
 
   -- v goes through a cut below n, and no way through another has fewer cells, or as many and fewer bits, or as many and a lower next cut
   pub record Least (F : ℕ → Way) (h n : ℕ) (v : Way) : Type 0 where
     pub below : v .next < n
-    pub is : v ≡ through C k l h (v .next) (F (v .next))
-    pub open-there : goes C k l h (v .next) (F (v .next)) ≡ true
-    pub least : (g : ℕ) → g < n → goes C k l h g (F g) ≡ true
+    pub is : v ≡ through (C h (v .next)) (v .next) (F (v .next))
+    pub open-there : goes k l (C h (v .next)) (F (v .next)) ≡ true
+    pub least : (g : ℕ) → g < n → goes k l (C h g) (F g) ≡ true
         → first (F g .cuts + 1) (v .cuts) (first (bits (C h g) + F g .bits) (v .bits) (ltb g (v .next))) ≡ false
 
   module _ (F : ℕ → Way) (h n : ℕ) (v : Way) where
-    kept : goes C k l h n (F n) ≡ false → Blocked F h n v ⊎ Least F h n v → Blocked F h (suc n) v ⊎ Least F h (suc n) v
-    kept e (inl (z, b)) = inl (z, (λ g p. last-or-below g n p (λ q. ap (λ (i : ℕ). goes C k l h i (F i)) q ∙ e) (λ q. b g q)))
+    kept : goes k l (C h n) (F n) ≡ false → Blocked F h n v ⊎ Least F h n v → Blocked F h (suc n) v ⊎ Least F h (suc n) v
+    kept e (inl (z, b)) = inl (z, (λ g p. last-or-below g n p (λ q. ap (λ (i : ℕ). goes k l (C h i) (F i)) q ∙ e) (λ q. b g q)))
     kept e (inr s) =
         inr
         (record {
@@ -93,14 +95,14 @@ module _ (C : ℕ → ℕ → Cell) (k l : ℕ) where
           is = s .is;
           open-there = s .open-there;
           least = λ g p o.
-              last-or-below g n p (λ q. absurd (true≢false (sym o ∙ ap (λ (i : ℕ). goes C k l h i (F i)) q ∙ e))) (λ q. s .least g q o);
+              last-or-below g n p (λ q. absurd (true≢false (sym o ∙ ap (λ (i : ℕ). goes k l (C h i) (F i)) q ∙ e))) (λ q. s .least g q o);
         })
 
     -- the way through n is the least where each one before is not before it
-    replaced : goes C k l h n (F n) ≡ true
-        → ((g : ℕ) → g < n → goes C k l h g (F g) ≡ true
+    replaced : goes k l (C h n) (F n) ≡ true
+        → ((g : ℕ) → g < n → goes k l (C h g) (F g) ≡ true
         → first (F g .cuts + 1) (F n .cuts + 1) (first (bits (C h g) + F g .bits) (bits (C h n) + F n .bits) (ltb g n)) ≡ false)
-        → Least F h (suc n) (through C k l h n (F n))
+        → Least F h (suc n) (through (C h n) n (F n))
     unfolding through
     replaced o b =
         record {
@@ -119,20 +121,21 @@ module _ (C : ℕ → ℕ → Cell) (k l : ℕ) where
     abbrev here : Bool
     here = first (F n .cuts + 1) (v .cuts) (ltb (bits (C h n) + F n .bits) (v .bits))
 
-    none-there : Blocked F h n v → fewer (through C k l h n (F n)) v ≡ true
+    none-there : Blocked F h n v → fewer (through (C h n) n (F n)) v ≡ true
     unfolding fewer
     none-there (z, b) = rw z
 
-    some-there : Least F h n v → fewer (through C k l h n (F n)) v ≡ here
+    some-there : Least F h n v → fewer (through (C h n) n (F n)) v ≡ here
     unfolding fewer through
     some-there s =
         let e : v .cuts ≡ F (v .next) .cuts + 1 = ap (λ (w : Way). w .cuts) (s .is) in
         rw (ne-eqb (v .cuts) 0 (λ z. omega arith))
 
-    pub least-next : Blocked F h n v ⊎ Least F h n v → Blocked F h (suc n) (withCutAt C k l h n (F n) v) ⊎ Least F h (suc n) (withCutAt C k l h n (F n) v)
+    pub least-next : Blocked F h n v ⊎ Least F h n v
+        → Blocked F h (suc n) (withCutAt k l (C h n) n (F n) v) ⊎ Least F h (suc n) (withCutAt k l (C h n) n (F n) v)
     unfolding withCutAt
     least-next s =
-        by-test (goes C k l h n (F n))
+        by-test (goes k l (C h n) (F n))
         (λ o.
         rw o
         (either s (λ b. rw (none-there b) (inr (replaced o (λ g p a. absurd (true≢false (sym a ∙ b .1 g p))))))
@@ -142,7 +145,8 @@ module _ (C : ℕ → ℕ → Cell) (k l : ℕ) where
         rw (some-there b, e)
         (inr (replaced o
         (λ g p a.
-        before-both (F n .cuts + 1) (v .cuts) (bits (C h n) + F n .bits) (v .bits) (F g .cuts + 1) (bits (C h g) + F g .bits) (ltb g (v .next)) (ltb g n)
+        before-both (F n .cuts + 1) (v .cuts) (bits (C h n) + F n .bits) (v .bits)
+        (F g .cuts + 1) (bits (C h g) + F g .bits) (ltb g (v .next)) (ltb g n)
         e (b .least g p a)))))
         (λ e.
         rw (some-there b, e)
@@ -187,3 +191,64 @@ module _ (C D : ℕ → ℕ → Cell) (k l t : ℕ) (same : (h g : ℕ) → h �
   pub way-same : (h : ℕ) → h ≤ t → wayFrom C k l h ≡ wayFrom D k l h
   unfolding wayFrom
   way-same h p = rw (ways-same h p)
+
+-- cells of at most 12 inputs and 8 outputs: few cuts, few bits
+module _ (C : ℕ → ℕ → Cell) (k l : ℕ) (ins : k ≤ 12) (outs : l ≤ 8) where
+  pub bits-small : (c : Cell) → fits k l c ≡ true → bits c ≤ 32768
+  unfolding fits bits rows
+  bits-small c e =
+      let (i, o) = and-split (leb (c .inputs) k) (leb (c .outputs) l) e in
+      let a = leb-true (c .inputs) k i in
+      let b = leb-true (c .outputs) l o in
+      let p : 2 ^ c .inputs ≤ 4096 = pow-mono {j = 12} (omega arith) in
+      omega (arith, mul-le-mul p (le-trans b outs))
+
+  pub record Small (h : ℕ) (w : Way) : Type 0 where
+    pub cuts : w .cuts ≤ h + 1
+    pub bits : w .bits ≤ h * 32768
+    pub next : w .next ≤ h
+
+  small-next : (h : ℕ) → ((g : ℕ) → g < suc h → Small g (wayFrom C k l g)) → Small (suc h) (wayFrom C k l (suc h))
+  unfolding goes through
+  small-next h low =
+      either (way-least C k l h) (λ b. rw (b .0) (record { cuts = omega arith; bits = omega arith; next = omega arith }))
+      (λ b.
+      let v = wayFrom C k l (suc h) in
+      let g = v .next in
+      let p : g < suc h = b .below in
+      let s = low g p in
+      let c : v .cuts ≡ wayFrom C k l g .cuts + 1 = ap (λ (w : Way). w .cuts) (b .is) in
+      let d : v .bits ≡ bits (C (suc h) g) + wayFrom C k l g .bits = ap (λ (w : Way). w .bits) (b .is) in
+      let e = bits-small (C (suc h) g) (and-split (fits k l (C (suc h) g)) (ltb 0 (wayFrom C k l g .cuts)) (b .open-there) .0) in
+      let few = s .cuts in
+      let low = s .bits in
+      record { cuts = omega arith; bits = omega arith; next = omega arith })
+
+  small-at : (h : ℕ) → ((g : ℕ) → g < h → Small g (wayFrom C k l g)) → Small h (wayFrom C k l h)
+  small-at zero low = rw (way-bottom C k l) (record { cuts = omega arith; bits = omega arith; next = omega arith })
+  small-at (suc h) low = small-next h low
+
+  way-small-to : (n h : ℕ) → h ≤ n → Small h (wayFrom C k l h)
+  way-small-to zero h le = small-at h (λ g p. absurd (omega arith))
+  way-small-to (suc n) h le = small-at h (λ g p. way-small-to n g (omega arith))
+
+  pub way-small : (h : ℕ) → Small h (wayFrom C k l h)
+  way-small h = way-small-to h h (omega arith)
+
+-- from above 0 a way has a cell
+pub way-cuts : (C : ℕ → ℕ → Cell) (k l h : ℕ) → 1 ≤ h → (wayFrom C k l h .cuts ≡ 0) ⊎ (2 ≤ wayFrom C k l h .cuts)
+unfolding goes through
+way-cuts C k l zero p = absurd (omega arith)
+way-cuts C k l (suc h) p =
+    either (way-least C k l h) (λ b. inl (ap (λ (w : Way). w .cuts) (b .0)))
+    (λ b.
+    let v = wayFrom C k l (suc h) in
+    let c : v .cuts ≡ wayFrom C k l (v .next) .cuts + 1 = ap (λ (w : Way). w .cuts) (b .is) in
+    let d = ltb-true 0 (wayFrom C k l (v .next) .cuts) (and-split (fits k l (C (suc h) (v .next))) _ (b .open-there) .1) in
+    inr (omega arith))
+
+-- the next cut is no higher
+pub way-falls : (C : ℕ → ℕ → Cell) (k l h : ℕ) → wayFrom C k l h .next ≤ h
+way-falls C k l zero = rw (way-bottom C k l) (omega arith)
+way-falls C k l (suc h) =
+    either (way-least C k l h) (λ b. rw (b .0) (omega arith)) (λ b. let p = b .below in omega arith)

@@ -1,26 +1,25 @@
 -- The chosen list follows the best ways from t to 0; there is none, and refusal 8, where t has no way.
 -- Assumes nothing.
-use mathlib.Core.Path.{_≡_, refl, sym, _∙_, ap, ap₂, subst}
+use mathlib.Core.Path.{_≡_, refl, sym, _∙_, ap}
 use mathlib.Core.Logic.{_⊎_, inl, inr}
-use mathlib.Core.Bool.{Bool, true, false, cond, _&&_, _||_, true≢false, false≢true}
+use mathlib.Core.Bool.{Bool, true, false, cond, _&&_, true≢false}
 use mathlib.Core.List.{List, [], _∷_, List·Memᴰ}
 use Prim.Native.Nat.{ℕ, zero, suc, _+_, _-_, _^_, _<_, _≤_}
-use native.Mathlib.Numerals.{add-one}
 use native.Mathlib.Omega.{arith}
 use lib.Dec.{eqb, ltb}
 use lib.ListN.{length, getD}
-use borrow.Author.Tests.{ltb-true, ltb-false, lt-ltb, eq-eqb, ne-eqb}
-use Rattle.laws.proofs.Cases.{by-test, by-less, either, cond-no, and-split, and-join, no-test}
+use borrow.Author.Tests.{ltb-true, ltb-false, lt-ltb, ne-eqb}
+use Rattle.laws.proofs.Cases.{by-less, either, and-split, and-join, no-test}
 use Rattle.sheet.specs.Job.{Job, t, ins, outs}
 use Rattle.sheet.specs.Refusals.{notEachOnce}
 use Rattle.cutting.specs.Cells.{fits, bits, allFit, bitTotal}
 use Rattle.cutting.specs.Cuts.{CutList, bottom, next, cutLists, railsAt, cellInputs, cellOutputs, cellBetween, cellsOf}
 use Rattle.cutting.specs.Choice.{longer, admissible, better, isNone, best, chosen, refuse8}
-use Rattle.cutting.specs.Ways.{Way, noWay, through, goes, wayFrom, falling, jobWay, listCell, listWay}
+use Rattle.cutting.specs.Ways.{Way, noWay, through, goes, falling, jobWay, listCell, listWay}
 use Rattle.cutting.proofs.RowLimit.{cells-next, ins-outs, admissible-fits}
 use Rattle.cutting.proofs.CutLists.{member-of, of-falls}
-use Rattle.cutting.proofs.Better.{first, first-less, first-same, first-more, first-no, cellsIn, bitsIn, better-is, better-itself, better-total, longer-next, best-of, Picked}
-use Rattle.cutting.proofs.Ways.{way-bottom, way-least, way-same, Blocked, Least}
+use Rattle.cutting.proofs.Better.{first, first-less, first-same, first-more, first-no, cellsIn, bitsIn, better-is, better-itself, better-total, longer-next, best-of}
+use Rattle.cutting.proofs.Ways.{way-bottom, way-least, way-same, way-cuts, way-falls, Blocked, Least}
 
 -- k not before f, and f not before g, in cells, bits and next cuts: then k not before g; q and p are the bits of the first cells
 not-before : (ak af ag bk bf bg p q f g : ℕ) (x y : Bool) → first ak af (first bk bf x) ≡ false
@@ -62,6 +61,14 @@ first-both x p q r s = rw (p, q, r, s)
 falls-on : {h : ℕ} {l : List ℕ} → CutList h l → 0 < h → (g : ℕ) × (k : List ℕ) × (g < h) × CutList g k × (l ≡ h ∷ k)
 falls-on bottom p = absurd (omega arith)
 falls-on (next {g = g} {l = k} q c) p = (g, k, q, c, refl)
+
+-- next cuts that agree at the heights to m
+falling-same : (f g : ℕ → ℕ) (m : ℕ) → ((h : ℕ) → h ≤ m → f h ≡ g h) → ((h : ℕ) → h ≤ m → f h ≤ m) → (n h : ℕ) → h ≤ m
+    → falling f n h ≡ falling g n h
+unfolding falling
+falling-same f g m same low zero h p = refl
+falling-same f g m same low (suc n) h p =
+    ap (λ (l : List ℕ). cond (eqb h 0) (h ∷ []) (h ∷ l)) (falling-same f g m same low n (f h) (low h p) ∙ ap (λ (i : ℕ). falling g n i) (same h p))
 
 module _ (j : Job) (ws : List ℕ) where
   abbrev nextCut : ℕ → ℕ
@@ -126,7 +133,7 @@ module _ (j : Job) (ws : List ℕ) where
   module _ (h n : ℕ) (le : h ≤ n) (lower : (g : ℕ) → g ≤ n → Nothing g (jobWay j ws g) ⊎ Following g (falling nextCut n g) (jobWay j ws g)) where
     -- where a list goes on at g and fits, the way from g is the best
     lower-at : (g : ℕ) (k : List ℕ) → g < suc h → CutList g k → allIn (suc h ∷ k) ≡ true
-        → (allIn k ≡ true) × (goes (cellBetween j ws) (j .K) (j .L) (suc h) g (jobWay j ws g) ≡ true)
+        → (allIn k ≡ true) × (goes (j .K) (j .L) (cellBetween j ws (suc h) g) (jobWay j ws g) ≡ true)
         × Following g (falling nextCut n g) (jobWay j ws g)
     unfolding goes
     lower-at g k p c a =
@@ -152,7 +159,11 @@ module _ (j : Job) (ws : List ℕ) where
         let (own, some) = and-split (fits (j .K) (j .L) (cellBetween j ws (suc h) g)) (ltb 0 (jobWay j ws g .cuts)) (s .open-there) in
         let cuts : jobWay j ws (suc h) .cuts ≡ jobWay j ws g .cuts + 1 = ap (λ (w : Way). w .cuts) (s .is) in
         let total : jobWay j ws (suc h) .bits ≡ bits (cellBetween j ws (suc h) g) + jobWay j ws g .bits = ap (λ (w : Way). w .bits) (s .is) in
-        either (lower g (omega arith)) (λ b. let z = ltb-true 0 (jobWay j ws g .cuts) some in let y = ap (λ (w : Way). w .cuts) (b .none) in absurd (omega arith))
+        either (lower g (omega arith))
+        (λ b.
+        let z = ltb-true 0 (jobWay j ws g .cuts) some in
+        let y = ap (λ (w : Way). w .cuts) (b .none) in
+        absurd (omega arith))
         (λ b.
         record {
           falls = next p (b .falls);
@@ -206,7 +217,7 @@ module _ (j : Job) (ws : List ℕ) (once : notEachOnce (j .n) (j .m) (j .order) 
   admitted : (l : List ℕ) → CutList (t j) l → admissible j ws l ≡ allIn j ws l
   admitted = admissible-fits j ws once few out small narrow
 
-  pub chosen-is : ((top ≡ noWay) × (chosen j ws ≡ [])) ⊎ ((chosen j ws ≡ led) × Following j ws (t j) led top)
+  chosen-is : ((top ≡ noWay) × (chosen j ws ≡ [])) ⊎ ((chosen j ws ≡ led) × Following j ws (t j) led top)
   unfolding chosen
   chosen-is =
       let picked = best-of j ws (cutLists (t j)) some-list in
@@ -228,11 +239,11 @@ module _ (j : Job) (ws : List ℕ) (once : notEachOnce (j .n) (j .m) (j .order) 
       )))
 
   -- no way: no list
-  pub chosen-none : top .cuts ≡ 0 → chosen j ws ≡ []
+  pub chosen-none : jobWay j ws (t j) .cuts ≡ 0 → chosen j ws ≡ []
   chosen-none z = either chosen-is (λ n. n .1) (λ f. let e = f .1 .cells in absurd (omega arith))
 
   -- a way: the list that follows it
-  pub chosen-way : 0 < top .cuts → chosen j ws ≡ falling (λ h. jobWay j ws h .next) (t j) (t j)
+  pub chosen-way : 0 < jobWay j ws (t j) .cuts → chosen j ws ≡ falling (λ h. jobWay j ws h .next) (t j) (t j)
   chosen-way p = either chosen-is (λ n. let e = ap (λ (w : Way). w .cuts) (n .0) in absurd (omega arith)) (λ f. f .0)
 
   pub chosen-cells : length (cellsOf j ws (chosen j ws)) ≡ jobWay j ws (t j) .cuts - 1
@@ -252,6 +263,25 @@ module _ (j : Job) (ws : List ℕ) (once : notEachOnce (j .n) (j .m) (j .order) 
       (λ f.
       let e = f .1 .cells in
       ap (isNone j ws) (f .0) ∙ some-list led (member-of (f .1 .falls)) ∙ sym (ne-eqb (jobWay j ws (t j) .cuts) 0 (λ z. omega arith)))
+
+  -- where there are variables: no way, no cells
+  pub refuse8-cells : 1 ≤ t j → refuse8 j ws ≡ eqb (jobWay j ws (t j) .cuts - 1) 0
+  unfolding jobWay
+  refuse8-cells p =
+      refuse8-is
+      ∙ either (way-cuts (cellBetween j ws) (j .K) (j .L) (t j) p) (λ e. rw e)
+      (λ e.
+      ne-eqb (jobWay j ws (t j) .cuts) 0 (λ z. omega arith)
+      ∙ sym (ne-eqb (jobWay j ws (t j) .cuts - 1) 0 (λ z. omega arith)))
+
+  -- next cuts that stand in a list
+  pub chosen-next : (nx : List ℕ) → ((h : ℕ) → h ≤ t j → getD nx h 0 ≡ jobWay j ws h .next) → 0 < jobWay j ws (t j) .cuts
+      → chosen j ws ≡ falling (λ h. getD nx h 0) (t j) (t j)
+  unfolding jobWay
+  chosen-next nx e p =
+      chosen-way p
+      ∙ falling-same (λ h. jobWay j ws h .next) (λ h. getD nx h 0) (t j) (λ h q. sym (e h q))
+      (λ h q. let r = way-falls (cellBetween j ws) (j .K) (j .L) h in omega arith) (t j) (t j) (omega arith)
 
 -- the ways of a job by its rails and inputs at the heights 0 to t
 module _ (j : Job) (ws rs is : List ℕ) (rails-are : (h : ℕ) → h ≤ t j → getD rs h 0 ≡ railsAt j ws h)

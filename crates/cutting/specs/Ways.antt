@@ -21,24 +21,24 @@ bottomWay = record { cuts = 1; bits = 0; next = 0 }
 unfoldable pub fewer : Way → Way → Bool
 fewer w v = eqb (v .cuts) 0 || (ltb (w .cuts) (v .cuts) || eqb (w .cuts) (v .cuts) && ltb (w .bits) (v .bits))
 
+-- the cell c down to the cut g, then the way w from there
+unfoldable pub through : Cell → ℕ → Way → Way
+through c g w = record { cuts = w .cuts + 1; bits = bits c + w .bits; next = g }
+
+-- the cell fits, and there is a way from its lower cut
+unfoldable pub goes : ℕ → ℕ → Cell → Way → Bool
+goes k l c w = fits k l c && ltb 0 (w .cuts)
+
+-- the better of the way v and the one through g
+unfoldable pub withCutAt : ℕ → ℕ → Cell → ℕ → Way → Way → Way
+withCutAt k l c g w v = let u = through c g w in cond (goes k l c w && fewer u v) u v
+
 -- C a b is the cell between the cuts a and b
 module _ (C : ℕ → ℕ → Cell) (k l : ℕ) where
-  -- the cell from h to g, then the way w from g
-  unfoldable pub through : ℕ → ℕ → Way → Way
-  through h g w = record { cuts = w .cuts + 1; bits = bits (C h g) + w .bits; next = g }
-
-  -- the cell fits, and there is a way from g
-  unfoldable pub goes : ℕ → ℕ → Way → Bool
-  goes h g w = fits k l (C h g) && ltb 0 (w .cuts)
-
-  -- the better of the way v and the one through g
-  unfoldable pub withCutAt : ℕ → ℕ → Way → Way → Way
-  withCutAt h g w v = let u = through h g w in cond (goes h g w && fewer u v) u v
-
   -- the best way from h with its next cut below n; F gives the ways from the lower heights
   unfoldable pub wayBelow : (ℕ → Way) → ℕ → ℕ → Way
   wayBelow F h zero = noWay
-  wayBelow F h (suc g) = withCutAt h g (F g) (wayBelow F h g)
+  wayBelow F h (suc g) = withCutAt k l (C h g) g (F g) (wayBelow F h g)
 
   -- the ways from the heights 0 to h; from h
   unfoldable pub ways : ℕ → List Way
@@ -64,3 +64,13 @@ listCell rs is a b =
 
 unfoldable pub listWay : ℕ → ℕ → List ℕ → List ℕ → ℕ → Way
 listWay k l rs is = wayFrom (listCell rs is) k l
+
+-- its cuts, bits and next cut
+abbrev pub cutsFrom : ℕ → ℕ → List ℕ → List ℕ → ℕ → ℕ
+cutsFrom k l rs is h = listWay k l rs is h .cuts
+
+abbrev pub bitsFrom : ℕ → ℕ → List ℕ → List ℕ → ℕ → ℕ
+bitsFrom k l rs is h = listWay k l rs is h .bits
+
+abbrev pub nextFrom : ℕ → ℕ → List ℕ → List ℕ → ℕ → ℕ
+nextFrom k l rs is h = listWay k l rs is h .next

@@ -6,7 +6,8 @@ ghost use lib.Dec.{eqb, leb, ltb};
 ghost use lib.ListN.{length, getD};
 ghost use Rattle.laws.specs.Tests.{every, within};
 ghost use Rattle.sheet.specs.Job.{isInput};
-ghost use Rattle.cutting.specs.Stored.{recordCount, variable, cutByte, railByte, recordFormed, cellCount, cellFormed, recordsFormed, rowsFormed, rowCount, wellFormed};
+ghost use Rattle.cutting.specs.Stored.{recordCount, variable, cutByte, railByte, recordFormed, cellCount, cellFormed};
+ghost use Rattle.cutting.specs.Stored.{recordsFormed, rowsFormed, rowCount, wellFormed};
 
 fn wide(x: u8) -> usize
     ensures { λ r. ⌜ (r ≡ x) × (r < 256) ⌝ }
@@ -68,7 +69,8 @@ fn each_formed(records: &[u8]) -> bool
 
 // Whole records, 1 to 20 of them.
 fn shaped(records: &[u8]) -> bool
-    ensures { λ r. ⌜ r ≡ (eqb (length (now (records .entry))) (recordCount (now (records .entry)) * 4) && within 1 20 (recordCount (now (records .entry)))) ⌝ }
+    ensures { λ r. ⌜ r ≡ (eqb (length (now (records .entry))) (recordCount (now (records .entry)) * 4)
+        && within 1 20 (recordCount (now (records .entry)))) ⌝ }
 {
     let count = records.len() / 4;
     (records.len() == count * 4) & ((1 <= count) & (count <= 20))
@@ -77,7 +79,8 @@ fn shaped(records: &[u8]) -> bool
 // The last record has a cut with 0 rails.
 fn last_cut(records: &[u8]) -> bool
     requires { do ⌜ 1 ≤ (← ⟦records.len()⟧) / 4 ⌝ }
-    ensures { λ r. ⌜ r ≡ (eqb (cutByte (now (records .entry)) (recordCount (now (records .entry)) - 1)) 1 && eqb (railByte (now (records .entry)) (recordCount (now (records .entry)) - 1)) 0) ⌝ }
+    ensures { λ r. ⌜ r ≡ (eqb (cutByte (now (records .entry)) (recordCount (now (records .entry)) - 1)) 1
+        && eqb (railByte (now (records .entry)) (recordCount (now (records .entry)) - 1)) 0) ⌝ }
 {
     let last = records.len() / 4 - 1;
     (records[last * 4 + 1] == 1) & (records[last * 4 + 2] == 0)
@@ -250,7 +253,8 @@ fn cell_below(rows: &[u8], cut: usize, at: usize, inputs: usize, outputs: usize)
 
 // The rows of each cell are below 2^outputs.
 fn rows_formed(records: &[u8], rows: &[u8]) -> bool
-    requires { ⌜ (length (now records) ≤ 80) × (every (cellCount (now records)) (cellFormed (now records)) ≡ true) × (length (now rows) ≡ rowCount (now records)) ⌝ }
+    requires { ⌜ (length (now records) ≤ 80) × (every (cellCount (now records)) (cellFormed (now records)) ≡ true)
+        × (length (now rows) ≡ rowCount (now records)) ⌝ }
     ensures { λ r. ⌜ r ≡ every (cellCount (now (records .entry))) (rowsFormed (now (records .entry)) (now (rows .entry))) ⌝ }
 {
     let count = records.len() / 4;

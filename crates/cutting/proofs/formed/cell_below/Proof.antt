@@ -28,7 +28,8 @@ returns c =
     let R = now (a .rows) in
     c .rows-below .ensures
     ∙ ap₂ (λ (n b : ℕ). every n (λ i. ltb (getD R (a .at + i) 0) b)) (c .before .before .power .ensures .0) (c .before .power2 .ensures .0)
-    ∙ sym (cond-yes (eqb (a .cut) 1) (every (2 ^ a .inputs) (λ i. ltb (getD R (a .at + i) 0) (2 ^ a .outputs))) true (eq-eqb (a .cut) 1 (c .before .before .before .if1 .taken)))
+    ∙ sym (cond-yes (eqb (a .cut) 1) (every (2 ^ a .inputs) (λ i. ltb (getD R (a .at + i) 0) (2 ^ a .outputs))) true
+    (eq-eqb (a .cut) 1 (c .before .before .before .if1 .taken)))
 
 returns-2 : tie.Need-returns-2
 returns-2 c = rw (ne-eqb _ _ (c .if1 .left))

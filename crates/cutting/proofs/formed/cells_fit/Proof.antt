@@ -1,7 +1,7 @@
 -- `cells_fit` tests each cell.
 -- Assumes nothing.
-use Rattle.cutting.proofs.CellsRead.{Begun, Turn, none-begun, begun-small, few-now, turn-begun, turn-fit}
-use Rattle.cutting.proofs.StoredCells.{fitAll, begin, fit-all}
+use Rattle.cutting.proofs.CellsRead.{Begun, turn, none-begun, begun-small, few-now, turn-begun, turn-fit}
+use Rattle.cutting.proofs.StoredCells.{cellsTo, fitAll, begin, fit-all}
 use mathlib.Core.Path.{_≡_, sym, _∙_}
 use Rattle.cutting.specs.Stored.{recordCount, Reading, reading}
 use native.Mathlib.Omega.{arith}
@@ -12,7 +12,8 @@ use Rattle.cutting.proofs.formed.cells_fit.Statement.{statement}
 use Rattle.cutting.proofs.formed.cells_fit.Tie as tie
 
 abbrev Inv-loop : tie.InvT-loop
-Inv-loop records count fit₀ ins₀ outs₀ upper₀ i₀ fit ins outs upper i = (i ≤ count) × Begun records i ins outs upper × (fit ≡ fitAll (reading records i .ended))
+Inv-loop records count fit₀ ins₀ outs₀ upper₀ i₀ fit ins outs upper i =
+    (i ≤ count) × Begun records i ins outs upper × (fit ≡ fitAll (cellsTo records i))
 
 abbrev μ-loop : tie.MeasureT-loop
 μ-loop records count fit₀ ins₀ outs₀ upper₀ i₀ fit ins outs upper i = count - i
@@ -56,14 +57,12 @@ wide-requires-3 c κs = search needs
 inputs-with-requires : tie.Need-inputs-with-requires Inv-loop μ-loop
 inputs-with-requires c κs =
     let l = c .before .before .before .before .before .before .before .loop in
-    let R = now (c .before .before .before .before .before .before .before .before .before .args .records) in
-    omega (arith, begun-small R (l .i) (l .ins) (l .outs) (l .upper) (l .inv .1) .0, l .inv .0)
+    omega (arith, begun-small (l .inv .1) .0, l .inv .0)
 
 outputs-with-requires : tie.Need-outputs-with-requires Inv-loop μ-loop
 outputs-with-requires c κs =
     let l = c .before .before .before .before .before .before .before .before .loop in
-    let R = now (c .before .before .before .before .before .before .before .before .before .before .args .records) in
-    omega (arith, begun-small R (l .i) (l .ins) (l .outs) (l .upper) (l .inv .1) .1, l .inv .0)
+    omega (arith, begun-small (l .inv .1) .1, l .inv .0)
 
 add-cell-fits : tie.Need-add-cell-fits Inv-loop μ-loop
 add-cell-fits c =
@@ -73,11 +72,8 @@ add-cell-fits c =
     let iw = c .before .inputs-with in
     let ow = c .outputs-with in
     let l = c .before .before .before .before .before .before .before .before .before .loop in
-    let R = now (c .before .before .before .before .before .before .before .before .before .before .before .args .records) in
-    let i = l .i in
-    let t : Turn R i (l .ins) (l .outs) (l .upper) (w .result) (w2 .result) (w3 .result) (iw .result) (ow .result) =
-    record { begun = l .inv .1; v-is = w .ensures .0; cut-is = w2 .ensures .0; rail-is = w3 .ensures .0; rail-small = w3 .ensures .1; more-is = iw .ensures; over-is = ow .ensures } in
-    omega (arith, few-now R i (l .ins) (l .outs) (l .upper) (w .result) (w2 .result) (w3 .result) (iw .result) (ow .result) t .0, l .inv .0, l .inv .1 .small)
+    let t = turn (l .inv .1) (w .ensures .0) (w2 .ensures .0) (w3 .ensures) (iw .ensures) (ow .ensures) in
+    omega (arith, few-now t .0, l .inv .0, l .inv .1 .small)
 
 add-cell-fits-2 : tie.Need-add-cell-fits-2 Inv-loop μ-loop
 add-cell-fits-2 c =
@@ -87,11 +83,8 @@ add-cell-fits-2 c =
     let iw = c .before .inputs-with in
     let ow = c .outputs-with in
     let l = c .before .before .before .before .before .before .before .before .before .loop in
-    let R = now (c .before .before .before .before .before .before .before .before .before .before .before .args .records) in
-    let i = l .i in
-    let t : Turn R i (l .ins) (l .outs) (l .upper) (w .result) (w2 .result) (w3 .result) (iw .result) (ow .result) =
-    record { begun = l .inv .1; v-is = w .ensures .0; cut-is = w2 .ensures .0; rail-is = w3 .ensures .0; rail-small = w3 .ensures .1; more-is = iw .ensures; over-is = ow .ensures } in
-    omega (arith, few-now R i (l .ins) (l .outs) (l .upper) (w .result) (w2 .result) (w3 .result) (iw .result) (ow .result) t .1, l .inv .0, w3 .ensures .1)
+    let t = turn (l .inv .1) (w .ensures .0) (w2 .ensures .0) (w3 .ensures) (iw .ensures) (ow .ensures) in
+    omega (arith, few-now t .1, l .inv .0, w3 .ensures .1)
 
 cell-fits-requires : tie.Need-cell-fits-requires Inv-loop μ-loop
 cell-fits-requires c κs = search needs
@@ -119,13 +112,10 @@ loop-again c =
     let iw = c .before .before .before .before .before .inputs-with in
     let ow = c .before .before .before .before .outputs-with in
     let l = c .before .before .before .before .before .before .before .before .before .before .before .before .before .loop in
-    let R = now (c .before .before .before .before .before .before .before .before .before .before .before .before .before .before .before .args .records) in
-    let i = l .i in
-    let t : Turn R i (l .ins) (l .outs) (l .upper) (w .result) (w2 .result) (w3 .result) (iw .result) (ow .result) =
-    record { begun = l .inv .1; v-is = w .ensures .0; cut-is = w2 .ensures .0; rail-is = w3 .ensures .0; rail-small = w3 .ensures .1; more-is = iw .ensures; over-is = ow .ensures } in (
+    let t = turn (l .inv .1) (w .ensures .0) (w2 .ensures .0) (w3 .ensures) (iw .ensures) (ow .ensures) in (
       omega arith,
-      turn-begun R i (l .ins) (l .outs) (l .upper) (w .result) (w2 .result) (w3 .result) (iw .result) (ow .result) t (c .before .before .after .result) (c .before .after2 .result) (c .after3 .result) (c .before .before .after .ensures) (c .before .after2 .ensures) (c .after3 .ensures),
-      turn-fit R i (l .ins) (l .outs) (l .upper) (w .result) (w2 .result) (w3 .result) (iw .result) (ow .result) t (l .fit) (c .before .before .before .cell-fits .result) (l .inv .2) (c .before .before .before .cell-fits .ensures),
+      turn-begun t (c .before .before .after .ensures) (c .before .after2 .ensures) (c .after3 .ensures),
+      turn-fit t (l .inv .2) (c .before .before .before .cell-fits .ensures),
     )
 
 returns : tie.Need-returns Inv-loop μ-loop

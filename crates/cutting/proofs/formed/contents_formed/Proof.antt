@@ -28,7 +28,8 @@ rows-of-requires c κs = (omega arith, sym (c .before .cells-fit .ensures) ∙ c
 returns : tie.Need-returns
 returns c =
     let R = now (c .before .before .before .before .before .before .args .records) in
-    ap₂ _&&_ (ap₂ _&&_ (c .before .before .before .before .each-formed .ensures) (c .before .before .before .last-cut .ensures)) (ap (λ (x : ℕ). leb x 32768) (c .rows-of .ensures))
+    let records = ap₂ _&&_ (c .before .before .before .before .each-formed .ensures) (c .before .before .before .last-cut .ensures) in
+    ap₂ _&&_ records (ap (λ (x : ℕ). leb x 32768) (c .rows-of .ensures))
     ∙ fourth-holds (every (recordCount R) (recordFormed R)) (eqb (cutByte R (recordCount R - 1)) 1)
     (eqb (railByte R (recordCount R - 1)) 0) (every (cellCount R) (cellFormed R)) (leb (rowCount R) 32768)
     (sym (c .before .before .cells-fit .ensures) ∙ c .before .if1 .taken)

@@ -19,20 +19,25 @@ row-count-requires c κs = sym (c .before .records-formed .ensures) ∙ c .if1 .
 
 rows-formed-requires : tie.Need-rows-formed-requires
 rows-formed-requires c κs =
-    let h = records-have (now (c .before .before .before .before .before .before .args .records)) (sym (c .before .before .before .records-formed .ensures) ∙ c .before .before .if1 .taken) in
+    let well = sym (c .before .before .before .records-formed .ensures) ∙ c .before .before .if1 .taken in
+    let h = records-have (now (c .before .before .before .before .before .before .args .records)) well in
     (omega (arith, h .whole, h .few), h .cells, c .if2 .taken ∙ c .before .row-count .ensures)
 
 returns : tie.Need-returns
 unfolding wellFormed
 returns c =
     let a = c .before .before .before .before .before .before .before .args in
-    rw (sym (c .before .before .before .before .records-formed .ensures) ∙ c .before .before .before .if1 .taken, eq-eqb (length (now (a .rows))) (rowCount (now (a .records))) (c .before .if2 .taken ∙ c .before .before .row-count .ensures)) (c .rows-formed .ensures)
+    let well = sym (c .before .before .before .before .records-formed .ensures) ∙ c .before .before .before .if1 .taken in
+    let many = eq-eqb (length (now (a .rows))) (rowCount (now (a .records))) (c .before .if2 .taken ∙ c .before .before .row-count .ensures) in
+    rw (well, many) (c .rows-formed .ensures)
 
 returns-2 : tie.Need-returns-2
 unfolding wellFormed
 returns-2 c =
     let a = c .before .before .before .before .before .before .args in
-    rw (sym (c .before .before .before .records-formed .ensures) ∙ c .before .before .if1 .taken, ne-eqb (length (now (a .rows))) (rowCount (now (a .records))) (λ e. c .if2 .left (e ∙ sym (c .before .row-count .ensures))))
+    let well = sym (c .before .before .before .records-formed .ensures) ∙ c .before .before .if1 .taken in
+    let many = ne-eqb (length (now (a .rows))) (rowCount (now (a .records))) (λ e. c .if2 .left (e ∙ sym (c .before .row-count .ensures))) in
+    rw (well, many)
 
 returns-3 : tie.Need-returns-3
 unfolding wellFormed

@@ -55,7 +55,10 @@ first-of-requires c κs = search needs
 
 returns : tie.Need-returns
 unfolding recordFormed
-returns c = rw (c .before .before .before .before .before .before .before .wide .ensures .0, c .before .before .before .before .before .wide2 .ensures .0, c .before .before .before .wide3 .ensures .0, c .before .wide4 .ensures .0, c .first-of .ensures)
+returns c =
+    let v = c .before .before .before .before .before .before .before .wide .ensures .0 in
+    let cut = c .before .before .before .before .before .wide2 .ensures .0 in
+    rw (v, cut, c .before .before .before .wide3 .ensures .0, c .before .wide4 .ensures .0, c .first-of .ensures)
 
 pub record-formed-spec : {M : Type 1} → statement M
 record-formed-spec =

@@ -39,8 +39,11 @@ loop-less c = search needs
 loop-again : tie.Need-loop-again Inv-loop μ-loop
 loop-again c =
     let l = c .before .before .before .loop in
-    let a = c .before .before .before .before .before .args in
-    (omega arith, every-step (λ q. ltb (getD (now (a .rows)) (a .at + q) 0) (a .limit)) (l .i) (l .inv .1) (ap (λ (x : ℕ). ltb x (a .limit)) (c .wide .ensures .0)))
+    let a = c .before .before .before .before .before .args in (
+      omega arith,
+      every-step (λ q. ltb (getD (now (a .rows)) (a .at + q) 0) (a .limit)) (l .i) (l .inv .1)
+          (ap (λ (x : ℕ). ltb x (a .limit)) (c .wide .ensures .0)),
+    )
 
 returns : tie.Need-returns Inv-loop μ-loop
 returns c =

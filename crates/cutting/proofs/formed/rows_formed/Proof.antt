@@ -3,16 +3,17 @@
 use mathlib.Core.Path.{_≡_, sym, _∙_, ap}
 use Prim.Native.Nat.{ℕ, _≤_, _<_, _-_, _*_, _^_}
 use denote.Ref.{now}
-use Rattle.cutting.specs.Stored.{Reading, reading, recordCount}
-use Rattle.cutting.proofs.StoredCells.{rowSum, bytesFit, rowsBelow, begin, bytes-begin, bytes-all, cell-small, cell-inside}
-use Rattle.cutting.proofs.CellsRead.{Begun, Turn, none-begun, begun-small, few-now, inputs-now, outputs-now, turn-begun, turn-rows, turn-bytes}
+use Rattle.cutting.specs.Stored.{recordCount}
+use Rattle.cutting.proofs.StoredCells.{cellsTo, rowSum, bytesFit, rowsBelow, begin, bytes-begin, bytes-all, cell-small, cell-inside}
+use Rattle.cutting.proofs.CellsRead.{Begun, turn, none-begun, begun-small, few-now, inputs-now, outputs-now, turn-begun, turn-rows, turn-bytes}
 use native.Mathlib.Omega.{arith}
 use borrow.Author.Needs.{needs}
 use Rattle.cutting.proofs.formed.rows_formed.Statement.{statement}
 use Rattle.cutting.proofs.formed.rows_formed.Tie as tie
 
 abbrev Inv-loop : tie.InvT-loop
-Inv-loop records rows count formed₀ at₀ ins₀ outs₀ upper₀ i₀ formed at ins outs upper i = (i ≤ count) × Begun records i ins outs upper × (at ≡ rowSum (reading records i .ended)) × (at ≤ i * 4096) × (formed ≡ bytesFit rows (reading records i .ended))
+Inv-loop records rows count formed₀ at₀ ins₀ outs₀ upper₀ i₀ formed at ins outs upper i =
+    (i ≤ count) × Begun records i ins outs upper × (at ≡ rowSum (cellsTo records i)) × (at ≤ i * 4096) × (formed ≡ bytesFit rows (cellsTo records i))
 
 abbrev μ-loop : tie.MeasureT-loop
 μ-loop records rows count formed₀ at₀ ins₀ outs₀ upper₀ i₀ formed at ins outs upper i = count - i
@@ -60,13 +61,13 @@ inputs-with-requires : tie.Need-inputs-with-requires Inv-loop μ-loop
 inputs-with-requires c κs =
     let l = c .before .before .before .before .before .before .before .loop in
     let a = c .before .before .before .before .before .before .before .before .before .before in
-    omega (arith, begun-small (now (a .args .records)) (l .i) (l .ins) (l .outs) (l .upper) (l .inv .1) .0, l .inv .0, a .pre .0)
+    omega (arith, begun-small (l .inv .1) .0, l .inv .0, a .pre .0)
 
 outputs-with-requires : tie.Need-outputs-with-requires Inv-loop μ-loop
 outputs-with-requires c κs =
     let l = c .before .before .before .before .before .before .before .before .loop in
     let a = c .before .before .before .before .before .before .before .before .before .before .before in
-    omega (arith, begun-small (now (a .args .records)) (l .i) (l .ins) (l .outs) (l .upper) (l .inv .1) .1, l .inv .0, a .pre .0)
+    omega (arith, begun-small (l .inv .1) .1, l .inv .0, a .pre .0)
 
 add-cell-below : tie.Need-add-cell-below Inv-loop μ-loop
 add-cell-below c =
@@ -77,11 +78,8 @@ add-cell-below c =
     let ow = c .outputs-with in
     let l = c .before .before .before .before .before .before .before .before .before .loop in
     let a = c .before .before .before .before .before .before .before .before .before .before .before .before in
-    let R = now (a .args .records) in
-    let i = l .i in
-    let t : Turn R i (l .ins) (l .outs) (l .upper) (w .result) (w2 .result) (w3 .result) (iw .result) (ow .result) =
-    record { begun = l .inv .1; v-is = w .ensures .0; cut-is = w2 .ensures .0; rail-is = w3 .ensures .0; rail-small = w3 .ensures .1; more-is = iw .ensures; over-is = ow .ensures } in
-    omega (arith, few-now R i (l .ins) (l .outs) (l .upper) (w .result) (w2 .result) (w3 .result) (iw .result) (ow .result) t .0, l .inv .0, l .inv .1 .small, a .pre .0)
+    let t = turn (l .inv .1) (w .ensures .0) (w2 .ensures .0) (w3 .ensures) (iw .ensures) (ow .ensures) in
+    omega (arith, few-now t .0, l .inv .0, l .inv .1 .small, a .pre .0)
 
 add-cell-below-2 : tie.Need-add-cell-below-2 Inv-loop μ-loop
 add-cell-below-2 c =
@@ -92,11 +90,8 @@ add-cell-below-2 c =
     let ow = c .outputs-with in
     let l = c .before .before .before .before .before .before .before .before .before .loop in
     let a = c .before .before .before .before .before .before .before .before .before .before .before .before in
-    let R = now (a .args .records) in
-    let i = l .i in
-    let t : Turn R i (l .ins) (l .outs) (l .upper) (w .result) (w2 .result) (w3 .result) (iw .result) (ow .result) =
-    record { begun = l .inv .1; v-is = w .ensures .0; cut-is = w2 .ensures .0; rail-is = w3 .ensures .0; rail-small = w3 .ensures .1; more-is = iw .ensures; over-is = ow .ensures } in
-    omega (arith, few-now R i (l .ins) (l .outs) (l .upper) (w .result) (w2 .result) (w3 .result) (iw .result) (ow .result) t .1, l .inv .0, w3 .ensures .1, a .pre .0)
+    let t = turn (l .inv .1) (w .ensures .0) (w2 .ensures .0) (w3 .ensures) (iw .ensures) (ow .ensures) in
+    omega (arith, few-now t .1, l .inv .0, w3 .ensures .1, a .pre .0)
 
 cell-below-requires : tie.Need-cell-below-requires Inv-loop μ-loop
 cell-below-requires c κs =
@@ -109,15 +104,14 @@ cell-below-requires c κs =
     let a = c .before .before .before .before .before .before .before .before .before .before .before .before in
     let R = now (a .args .records) in
     let i = l .i in
-    let t : Turn R i (l .ins) (l .outs) (l .upper) (w .result) (w2 .result) (w3 .result) (iw .result) (ow .result) =
-    record { begun = l .inv .1; v-is = w .ensures .0; cut-is = w2 .ensures .0; rail-is = w3 .ensures .0; rail-small = w3 .ensures .1; more-is = iw .ensures; over-is = ow .ensures } in
+    let t = turn (l .inv .1) (w .ensures .0) (w2 .ensures .0) (w3 .ensures) (iw .ensures) (ow .ensures) in
     λ e.
     let q = sym (w2 .ensures .0) ∙ e in
     let less : i < recordCount R = c .before .before .before .before .before .before .before .before .loop-test .taken in
     let h = cell-small R (a .pre .1) i less q in
     let room = cell-inside R (a .pre .1) i less q in
-    let power = ap (λ (x : ℕ). 2 ^ x) (inputs-now R i (l .ins) (l .outs) (l .upper) (w .result) (w2 .result) (w3 .result) (iw .result) (ow .result) t) in
-    (omega (arith, inputs-now R i (l .ins) (l .outs) (l .upper) (w .result) (w2 .result) (w3 .result) (iw .result) (ow .result) t, h .0), omega (arith, outputs-now R i (l .ins) (l .outs) (l .upper) (w .result) (w2 .result) (w3 .result) (iw .result) (ow .result) t, h .1), omega (arith, room, power, l .inv .2, a .pre .2))
+    let power = ap (λ (x : ℕ). 2 ^ x) (inputs-now t) in
+    (omega (arith, inputs-now t, h .0), omega (arith, outputs-now t, h .1), omega (arith, room, power, l .inv .2, a .pre .2))
 
 add-cell-rows : tie.Need-add-cell-rows Inv-loop μ-loop
 add-cell-rows c =
@@ -128,11 +122,8 @@ add-cell-rows c =
     let ow = c .before .outputs-with in
     let l = c .before .before .before .before .before .before .before .before .before .before .loop in
     let a = c .before .before .before .before .before .before .before .before .before .before .before .before .before in
-    let R = now (a .args .records) in
-    let i = l .i in
-    let t : Turn R i (l .ins) (l .outs) (l .upper) (w .result) (w2 .result) (w3 .result) (iw .result) (ow .result) =
-    record { begun = l .inv .1; v-is = w .ensures .0; cut-is = w2 .ensures .0; rail-is = w3 .ensures .0; rail-small = w3 .ensures .1; more-is = iw .ensures; over-is = ow .ensures } in
-    omega (arith, few-now R i (l .ins) (l .outs) (l .upper) (w .result) (w2 .result) (w3 .result) (iw .result) (ow .result) t .0, l .inv .0, l .inv .1 .small, a .pre .0)
+    let t = turn (l .inv .1) (w .ensures .0) (w2 .ensures .0) (w3 .ensures) (iw .ensures) (ow .ensures) in
+    omega (arith, few-now t .0, l .inv .0, l .inv .1 .small, a .pre .0)
 
 cell-rows-requires : tie.Need-cell-rows-requires Inv-loop μ-loop
 cell-rows-requires c κs =
@@ -145,12 +136,11 @@ cell-rows-requires c κs =
     let a = c .before .before .before .before .before .before .before .before .before .before .before .before .before in
     let R = now (a .args .records) in
     let i = l .i in
-    let t : Turn R i (l .ins) (l .outs) (l .upper) (w .result) (w2 .result) (w3 .result) (iw .result) (ow .result) =
-    record { begun = l .inv .1; v-is = w .ensures .0; cut-is = w2 .ensures .0; rail-is = w3 .ensures .0; rail-small = w3 .ensures .1; more-is = iw .ensures; over-is = ow .ensures } in
+    let t = turn (l .inv .1) (w .ensures .0) (w2 .ensures .0) (w3 .ensures) (iw .ensures) (ow .ensures) in
     λ e.
     let less : i < recordCount R = c .before .before .before .before .before .before .before .before .before .loop-test .taken in
     let h = cell-small R (a .pre .1) i less (sym (w2 .ensures .0) ∙ e) .0 in
-    omega (arith, inputs-now R i (l .ins) (l .outs) (l .upper) (w .result) (w2 .result) (w3 .result) (iw .result) (ow .result) t, h)
+    omega (arith, inputs-now t, h)
 
 add-at : tie.Need-add-at Inv-loop μ-loop
 add-at c = search needs
@@ -180,17 +170,14 @@ loop-again c =
     let ow = c .before .before .before .before .before .outputs-with in
     let l = c .before .before .before .before .before .before .before .before .before .before .before .before .before .before .loop in
     let a = c .before .before .before .before .before .before .before .before .before .before .before .before .before .before .before .before .before in
-    let R = now (a .args .records) in
-    let i = l .i in
-    let t : Turn R i (l .ins) (l .outs) (l .upper) (w .result) (w2 .result) (w3 .result) (iw .result) (ow .result) =
-    record { begun = l .inv .1; v-is = w .ensures .0; cut-is = w2 .ensures .0; rail-is = w3 .ensures .0; rail-small = w3 .ensures .1; more-is = iw .ensures; over-is = ow .ensures } in
+    let t = turn (l .inv .1) (w .ensures .0) (w2 .ensures .0) (w3 .ensures) (iw .ensures) (ow .ensures) in
     let r = c .before .before .before .cell-rows in
     let b = c .before .before .before .before .cell-below in (
       omega (arith, c .before .before .before .before .before .before .before .before .before .before .before .before .before .loop-test .taken),
-      turn-begun R i (l .ins) (l .outs) (l .upper) (w .result) (w2 .result) (w3 .result) (iw .result) (ow .result) t (c .before .before .after .result) (c .before .after2 .result) (c .after3 .result) (c .before .before .after .ensures) (c .before .after2 .ensures) (c .after3 .ensures),
-      turn-rows R i (l .ins) (l .outs) (l .upper) (w .result) (w2 .result) (w3 .result) (iw .result) (ow .result) t (l .at) (r .result) (l .inv .2) (r .ensures .0),
+      turn-begun t (c .before .before .after .ensures) (c .before .after2 .ensures) (c .after3 .ensures),
+      turn-rows t (l .inv .2) (r .ensures .0),
       omega (arith, l .inv .3, r .ensures .1),
-      turn-bytes R i (l .ins) (l .outs) (l .upper) (w .result) (w2 .result) (w3 .result) (iw .result) (ow .result) t (now (a .args .rows)) (l .at) (l .formed) (b .result) (l .inv .4) (l .inv .2) (b .ensures),
+      turn-bytes t (now (a .args .rows)) (l .inv .4) (l .inv .2) (b .ensures),
     )
 
 returns : tie.Need-returns Inv-loop μ-loop

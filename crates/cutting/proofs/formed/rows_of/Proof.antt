@@ -6,16 +6,17 @@ use Prim.Native.Nat.{ℕ, _≤_, _+_, _-_, _*_}
 use lib.Dec.{eqb}
 use denote.Ref.{now}
 use Rattle.sheet.specs.Job.{isInput}
-use Rattle.cutting.specs.Stored.{Reading, reading, recordCount}
-use Rattle.cutting.proofs.StoredCells.{rowSum, begunOuts, moreOuts, next-outs, begin, rows-all, cell-small}
-use Rattle.cutting.proofs.CellsRead.{Begun, Turn, none-begun, begun-small, few-now, inputs-now, turn-begun, turn-rows}
+use Rattle.cutting.specs.Stored.{recordCount}
+use Rattle.cutting.proofs.StoredCells.{cellsTo, rowSum, begunOuts, moreOuts, next-outs, begin, rows-all, cell-small}
+use Rattle.cutting.proofs.CellsRead.{Begun, turn, none-begun, begun-small, few-now, inputs-now, turn-begun, turn-rows}
 use native.Mathlib.Omega.{arith}
 use borrow.Author.Needs.{needs}
 use Rattle.cutting.proofs.formed.rows_of.Statement.{statement}
 use Rattle.cutting.proofs.formed.rows_of.Tie as tie
 
 abbrev Inv-loop : tie.InvT-loop
-Inv-loop records count rows₀ ins₀ upper₀ i₀ rows ins upper i = (i ≤ count) × Begun records i ins (begunOuts records i) upper × (rows ≡ rowSum (reading records i .ended)) × (rows ≤ i * 4096)
+Inv-loop records count rows₀ ins₀ upper₀ i₀ rows ins upper i =
+    (i ≤ count) × Begun records i ins (begunOuts records i) upper × (rows ≡ rowSum (cellsTo records i)) × (rows ≤ i * 4096)
 
 abbrev μ-loop : tie.MeasureT-loop
 μ-loop records count rows₀ ins₀ upper₀ i₀ rows ins upper i = count - i
@@ -62,8 +63,7 @@ wide-requires-3 c κs = search needs
 inputs-with-requires : tie.Need-inputs-with-requires Inv-loop μ-loop
 inputs-with-requires c κs =
     let l = c .before .before .before .before .before .before .before .loop in
-    let R = now (c .before .before .before .before .before .before .before .before .before .args .records) in
-    omega (arith, begun-small R (l .i) (l .ins) (begunOuts R (l .i)) (l .upper) (l .inv .1) .0, l .inv .0)
+    omega (arith, begun-small (l .inv .1) .0, l .inv .0)
 
 add-cell-rows : tie.Need-add-cell-rows Inv-loop μ-loop
 add-cell-rows c =
@@ -75,17 +75,9 @@ add-cell-rows c =
     let a = c .before .before .before .before .before .before .before .before .before .before in
     let R = now (a .args .records) in
     let i = l .i in
-    let t : Turn R i (l .ins) (begunOuts R i) (l .upper) (w .result) (w2 .result) (w3 .result) (iw .result) (moreOuts R i) =
-    record {
-      begun = l .inv .1;
-      v-is = w .ensures .0;
-      cut-is = w2 .ensures .0;
-      rail-is = w3 .ensures .0;
-      rail-small = w3 .ensures .1;
-      more-is = iw .ensures;
-      over-is = ap (λ (x : ℕ). cond (isInput x) (begunOuts R i) (begunOuts R i + 1)) (sym (w .ensures .0));
-    } in
-    omega (arith, few-now R i (l .ins) (begunOuts R i) (l .upper) (w .result) (w2 .result) (w3 .result) (iw .result) (moreOuts R i) t .0, l .inv .0, l .inv .1 .small)
+    let t = turn (l .inv .1) (w .ensures .0) (w2 .ensures .0) (w3 .ensures) (iw .ensures)
+    (ap (λ (x : ℕ). cond (isInput x) (begunOuts R i) (begunOuts R i + 1)) (sym (w .ensures .0))) in
+    omega (arith, few-now t .0, l .inv .0, l .inv .1 .small)
 
 cell-rows-requires : tie.Need-cell-rows-requires Inv-loop μ-loop
 cell-rows-requires c κs =
@@ -97,19 +89,11 @@ cell-rows-requires c κs =
     let a = c .before .before .before .before .before .before .before .before .before .before in
     let R = now (a .args .records) in
     let i = l .i in
-    let t : Turn R i (l .ins) (begunOuts R i) (l .upper) (w .result) (w2 .result) (w3 .result) (iw .result) (moreOuts R i) =
-    record {
-      begun = l .inv .1;
-      v-is = w .ensures .0;
-      cut-is = w2 .ensures .0;
-      rail-is = w3 .ensures .0;
-      rail-small = w3 .ensures .1;
-      more-is = iw .ensures;
-      over-is = ap (λ (x : ℕ). cond (isInput x) (begunOuts R i) (begunOuts R i + 1)) (sym (w .ensures .0));
-    } in
+    let t = turn (l .inv .1) (w .ensures .0) (w2 .ensures .0) (w3 .ensures) (iw .ensures)
+    (ap (λ (x : ℕ). cond (isInput x) (begunOuts R i) (begunOuts R i + 1)) (sym (w .ensures .0))) in
     λ e.
     let h = cell-small R (a .pre .1) i (omega arith) (sym (w2 .ensures .0) ∙ e) .0 in
-    omega (arith, inputs-now R i (l .ins) (begunOuts R i) (l .upper) (w .result) (w2 .result) (w3 .result) (iw .result) (moreOuts R i) t, h)
+    omega (arith, inputs-now t, h)
 
 add-rows : tie.Need-add-rows Inv-loop μ-loop
 add-rows c = search needs
@@ -136,21 +120,13 @@ loop-again c =
     let a = c .before .before .before .before .before .before .before .before .before .before .before .before .before in
     let R = now (a .args .records) in
     let i = l .i in
-    let t : Turn R i (l .ins) (begunOuts R i) (l .upper) (w .result) (w2 .result) (w3 .result) (iw .result) (moreOuts R i) =
-    record {
-      begun = l .inv .1;
-      v-is = w .ensures .0;
-      cut-is = w2 .ensures .0;
-      rail-is = w3 .ensures .0;
-      rail-small = w3 .ensures .1;
-      more-is = iw .ensures;
-      over-is = ap (λ (x : ℕ). cond (isInput x) (begunOuts R i) (begunOuts R i + 1)) (sym (w .ensures .0));
-    } in
+    let t = turn (l .inv .1) (w .ensures .0) (w2 .ensures .0) (w3 .ensures) (iw .ensures)
+    (ap (λ (x : ℕ). cond (isInput x) (begunOuts R i) (begunOuts R i + 1)) (sym (w .ensures .0))) in
     let d = next-outs R i ∙ ap (λ (x : ℕ). cond (eqb x 1) 0 (moreOuts R i)) (sym (w2 .ensures .0)) in
     let r = c .before .before .cell-rows in (
       omega arith,
-      turn-begun R i (l .ins) (begunOuts R i) (l .upper) (w .result) (w2 .result) (w3 .result) (iw .result) (moreOuts R i) t (c .before .after .result) (begunOuts R (i + 1)) (c .after2 .result) (c .before .after .ensures) d (c .after2 .ensures),
-      turn-rows R i (l .ins) (begunOuts R i) (l .upper) (w .result) (w2 .result) (w3 .result) (iw .result) (moreOuts R i) t (l .rows) (r .result) (l .inv .2) (r .ensures .0),
+      turn-begun t (c .before .after .ensures) d (c .after2 .ensures),
+      turn-rows t (l .inv .2) (r .ensures .0),
       omega (arith, l .inv .3, r .ensures .1),
     )
 
