@@ -14,6 +14,7 @@ use borrow.Author.Tests.{leb-true, le-leb, eq-eqb}
 use Rattle.laws.specs.Tests.{count}
 use Rattle.laws.proofs.Cases.{by-test, by-less, cond-yes, cond-both, and-split, and-join, and-left-no}
 use Rattle.laws.proofs.Find.{least-le, least-of}
+use Rattle.laws.proofs.Picked.{count-not}
 use Rattle.sheet.specs.Job.{Job, t, varAt, isInput, ins, outs}
 use Rattle.sheet.specs.Refusals.{notEachOnce}
 use Rattle.sheet.proofs.Orders.{ins-rise, outs-rise, outs-all}
@@ -27,15 +28,9 @@ pow-twice : (i : ℕ) → 2 ^ (i + 1) ≡ 2 * 2 ^ i
 pow-twice i = rw add-one (omega (arith, pow-suc 2 i))
 
 -- each variable at the heights h to 1 is an input or an output
-both-counts : (f : ℕ → Bool) (h : ℕ) → count h f + count h (λ k. not (f k)) ≡ h
-both-counts f zero = refl
-both-counts f (suc h) =
-    let before = both-counts f h in
-    by-test (f h) (λ e. rw e (omega arith)) (λ e. rw e (omega arith))
-
 pub ins-outs : (j : Job) (h : ℕ) → ins j h + outs j h ≡ h
 unfolding ins outs
-ins-outs j h = both-counts (λ k. isInput (varAt j (suc k))) h
+ins-outs j h = let e = count-not (λ k. isInput (varAt j (suc k))) h in omega arith
 
 -- the cells from h, where the list goes on at g
 pub cells-next : (j : Job) (ws : List ℕ) (h : ℕ) {g : ℕ} {l : List ℕ} → CutList g l → cellsOf j ws (h ∷ l) ≡ cellBetween j ws h g ∷ cellsOf j ws l

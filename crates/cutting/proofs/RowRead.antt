@@ -17,29 +17,21 @@ use Rattle.laws.specs.Bits.{bit, flag}
 use Rattle.laws.proofs.Cases.{cond-yes}
 use Rattle.laws.proofs.Counts.{sum-ext}
 use Rattle.laws.proofs.Bits.{flag-lt}
-use Rattle.laws.proofs.Powers.{sum-bit, sum-small}
+use Rattle.laws.proofs.Powers.{sum-bit, sum-small, sum-moved}
 use Rattle.sheet.specs.Job.{Job, t, ins, outs, varAt, isInput}
 use Rattle.sheet.specs.Refusals.{notEachOnce}
-use Rattle.sheet.proofs.Orders.{ins-rise, outs-rise, ins-all, outs-all}
+use Rattle.sheet.proofs.Orders.{ins-rise, outs-rise}
 use Rattle.sheet.proofs.Below.{insBelow, insBelow-at}
 use Rattle.reduction.specs.Columns.{entry, same, firstsAt, numberAt, layers, layer, widthIn}
 use Rattle.reduction.proofs.Numbers.{same-entry, entry-same, number-below, number-same, numberIn-equal}
 use Rattle.reduction.proofs.Kept.{same-deeper}
 use Rattle.reduction.proofs.Ruled.{Ruled}
-use Rattle.reduction.proofs.Children.{outs-output}
+use Rattle.reduction.proofs.Children.{outs-output, ins-below, outs-below}
 use Rattle.cutting.specs.Cuts.{railsAt}
 use Rattle.cutting.specs.Compile.{widthsOf}
 use Rattle.cutting.specs.Rows.{emitted, rowOf, row}
 use Rattle.cutting.proofs.RailCounts.{layer-at, rails-hold}
 use Rattle.cutting.proofs.OrderHeights.{output-number}
-
--- bits at places from r on
-sum-moved : (e : ℕ → ℕ) (r n : ℕ) → sum n (λ i. e i * 2 ^ (r + i)) ≡ sum n (λ i. e i * 2 ^ i) * 2 ^ r
-sum-moved e r zero = sym (zero-mul (2 ^ r))
-sum-moved e r (suc n) =
-    let one : e n * 2 ^ (r + n) ≡ e n * 2 ^ n * 2 ^ r =
-    ap (λ (k : ℕ). e n * k) (pow-add 2 r n ∙ mul-comm (2 ^ r) (2 ^ n)) ∙ sym (mul-assoc (e n) (2 ^ n) (2 ^ r)) in
-    ap₂ (λ (x y : ℕ). x + y) (sum-moved e r n) one ∙ sym (add-mul (sum n (λ i. e i * 2 ^ i)) (e n * 2 ^ n) (2 ^ r))
 
 module _ (j : Job) (once : notEachOnce (j .n) (j .m) (j .order) ≡ false) (few : j .n ≤ 12) (out : j .m ≤ 8) (f : List ℕ) where
   abbrev ls : List (List ℕ)
@@ -48,16 +40,10 @@ module _ (j : Job) (once : notEachOnce (j .n) (j .m) (j .order) ≡ false) (few 
   abbrev ws : List ℕ
   ws = widthsOf (layers j f)
 
-  ins-most : (h : ℕ) → h ≤ t j → ins j h ≤ j .n
-  ins-most h l = omega (arith, ins-rise j h (t j) l, ins-all j once few out)
-
-  outs-most : (h : ℕ) → h ≤ t j → outs j h ≤ j .m
-  outs-most h l = omega (arith, outs-rise j h (t j) l, outs-all j once few out)
-
   -- the number of a prefix's column names the column, and is below the width
   pub prefix-small : (h x : ℕ) → h ≤ t j → x < 2 ^ j .n → x / 2 ^ ins j h < 2 ^ (j .n - ins j h)
   prefix-small h x l p =
-      let e : j .n - ins j h + ins j h ≡ j .n = omega (arith, ins-most h l) in
+      let e : j .n - ins j h + ins j h ≡ j .n = omega (arith, ins-below j once few out h l) in
       shr-lt (j .n - ins j h) (ins j h) (rw e p)
 
   pub column-below : (h p : ℕ) → h ≤ t j → p < 2 ^ (j .n - ins j h) → numberAt j f (layer (layers j f) h) h p < widthIn (layers j f) h
@@ -110,7 +96,7 @@ module _ (j : Job) (once : notEachOnce (j .n) (j .m) (j .order) ≡ false) (few 
         ap₂ by (high r c s<) (low r c s<)
         ∙ cond-yes (ltb r (widthIn ls a)) (rowOf j f ls ws a b (first * 2 ^ c + s)) 0 (lt-ltb r (widthIn ls a) (column-below a p top p<))
         ∙ sym (row-same a b (p * 2 ^ c + s) (first * 2 ^ c + s) l
-        (same-deeper (j .n) (j .m) (ins j a) (outs j a) (ins j b) (outs j a) f (ins-rise j b a l) (ins-most a top) (omega arith) (outs-most a top)
+        (same-deeper (j .n) (j .m) (ins j a) (outs j a) (ins j b) (outs j a) f (ins-rise j b a l) (ins-below j once few out a top) (omega arith) (outs-below j once few out a top)
         p first s s< (column-same a p top p<)))
         ∙ ap (rowOf j f ls ws a b) prefix-split
 

@@ -11,21 +11,9 @@ use lib.ListN.{set}
 use lib.Pow.{pow-pos, high, low}
 use Rattle.laws.specs.Lists.{putsAt}
 use Rattle.laws.proofs.Cases.{cond-yes, cond-no}
-use Rattle.laws.proofs.Puts.{putsAt-next}
+use Rattle.laws.proofs.Puts.{putsAt-run}
 use Rattle.laws.proofs.Lists.{row-end}
 use Rattle.cutting.specs.RowWalks.{nodeRow, walkedRow}
-
--- a run of stores more
-pub putsAt-run : (f g : ℕ → ℕ) (b n c : ℕ) (l s : List ℕ) → s ≡ putsAt b n f l → ((i : ℕ) → i < c → g i ≡ f (n + i))
-    → putsAt (b + n) c g s ≡ putsAt b (n + c) f l
-unfolding putsAt
-putsAt-run f g b n zero l s e h = e ∙ ap (λ (k : ℕ). putsAt b k f l) (sym (add-zero n))
-putsAt-run f g b n (suc c) l s e h =
-    let at : b + n + c ≡ b + (n + c) = omega arith in
-    let more : n + c + 1 ≡ n + suc c = omega arith in
-    ap (λ (k : ℕ). set (putsAt (b + n) c g s) k (g c)) at
-    ∙ putsAt-next f b (n + c) l (putsAt (b + n) c g s) (g c) (putsAt-run f g b n c l s e (λ i p. h i (omega arith))) (h c (omega arith))
-    ∙ ap (λ (k : ℕ). putsAt b k f l) more
 
 module _ (words order : List ℕ) (top bottom upper width lower rails count : ℕ) where
   abbrev walked : ℕ → ℕ

@@ -18,7 +18,7 @@ use Rattle.laws.specs.Bits.{flag}
 use Rattle.laws.proofs.Cases.{by-less, cond-yes, cond-no}
 use Rattle.laws.proofs.Find.{least-hit}
 use Rattle.laws.proofs.Bits.{flag-lt}
-use Rattle.laws.proofs.Powers.{lt-pow, sum-small, place-below}
+use Rattle.laws.proofs.Powers.{sum-small, sum-moved, place-below}
 use Rattle.sheet.specs.Job.{Job, t, ins, outs}
 use Rattle.sheet.specs.Refusals.{sheetRefusal}
 use Rattle.sheet.specs.Table.{table}
@@ -47,14 +47,6 @@ first-bottom j ls = refl
 pub first-above : (j : Job) (ls : List (List ℕ)) (h : ℕ) → 1 ≤ h → firstAt j ls h ≡ 2 + nodesAbove j ls h
 unfolding firstAt
 first-above j ls h l = cond-no (eqb h 0) 1 (2 + nodesAbove j ls h) (ne-eqb h 0 (λ z. absurd (omega arith)))
-
--- bits that start at r
-sum-moved : (f : ℕ → ℕ) (r d : ℕ) → sum d (λ i. f i * 2 ^ (r + i)) ≡ sum d (λ i. f i * 2 ^ i) * 2 ^ r
-sum-moved f r zero = sym (zero-mul (2 ^ r))
-sum-moved f r (suc d) =
-    let one : f d * 2 ^ (r + d) ≡ f d * 2 ^ d * 2 ^ r =
-    ap (λ (k : ℕ). f d * k) (pow-add 2 r d ∙ mul-comm (2 ^ r) (2 ^ d)) ∙ sym (mul-assoc (f d) (2 ^ d) (2 ^ r)) in
-    omega (arith, sum-moved f r d, one, add-mul (sum d (λ i. f i * 2 ^ i)) (f d * 2 ^ d) (2 ^ r))
 
 module _ (j : Job) (f : List ℕ) where
   -- a row holds the outputs met above the column's number

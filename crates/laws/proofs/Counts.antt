@@ -2,8 +2,8 @@
 -- Assumes nothing.
 use mathlib.Core.Path.{_≡_, refl, sym, _∙_, ap, ap₂}
 use mathlib.Core.Bool.{Bool, true, false, cond}
-use Prim.Native.Nat.{ℕ, zero, suc, _+_, _<_, _≤_}
-use native.Mathlib.Nat.{not-suc-le-zero}
+use Prim.Native.Nat.{ℕ, zero, suc, _+_, _*_, _<_, _≤_}
+use native.Mathlib.Nat.{not-suc-le-zero, zero-mul, suc-mul}
 use native.Mathlib.Numerals.{add-one}
 use native.Mathlib.Omega.{arith}
 use Rattle.laws.specs.Tests.{count, sum}
@@ -86,3 +86,7 @@ sum-fewer f m (suc n) h =
 
 pub sum-at : (f : ℕ → ℕ) (n i : ℕ) → i < n → sum i f + f i ≤ sum n f
 sum-at f n i h = sum-fewer f (suc i) n h
+
+pub sum-fixed : (n c : ℕ) → sum n (λ i. c) ≡ n * c
+sum-fixed zero c = sym (zero-mul c)
+sum-fixed (suc n) c = omega (arith, sum-fixed n c, suc-mul n c)

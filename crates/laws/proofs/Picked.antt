@@ -46,7 +46,7 @@ flag-not : (b : Bool) → flag (not b) + flag b ≡ 1
 flag-not true = refl
 flag-not false = refl
 
-count-not : (f : ℕ → Bool) (n : ℕ) → count n (λ i. not (f i)) + count n f ≡ n
+pub count-not : (f : ℕ → Bool) (n : ℕ) → count n (λ i. not (f i)) + count n f ≡ n
 count-not f zero = refl
 count-not f (suc n) = omega (arith, count-add f n, count-add (λ i. not (f i)) n, flag-not (f n), count-not f n)
 

@@ -3,7 +3,7 @@
 use mathlib.Core.Path.{_≡_, sym, _∙_, ap}
 use mathlib.Core.Bool.{cond}
 use Prim.Native.Nat.{ℕ, zero, suc, _+_, _-_, _*_, _/_, _%_, _^_, _<_, _≤_}
-use native.Mathlib.Nat.{mod-lt, add-mul, div-one, pow-suc, not-suc-le-zero, mul-le-mul-right, one-mul}
+use native.Mathlib.Nat.{mod-lt, add-mul, div-one, pow-suc, not-suc-le-zero, mul-le-mul-right, one-mul, zero-mul, mul-comm, mul-assoc}
 use native.Mathlib.Omega.{arith}
 use lib.Dec.{eqb}
 use lib.Pow.{pow-pos, pow-add, shr-shr, split}
@@ -101,3 +101,11 @@ pub place-below : (n a p x : ℕ) → a ≤ n → p < 2 ^ (n - a) → x < 2 ^ a 
 place-below n a p x ha hp hx =
     let e : n - a + a ≡ n = omega arith in
     rw (ap (λ (i : ℕ). 2 ^ i) (sym e) ∙ pow-add 2 (n - a) a) (digits-lt hp hx)
+
+-- bits that start at place r
+pub sum-moved : (f : ℕ → ℕ) (r d : ℕ) → sum d (λ i. f i * 2 ^ (r + i)) ≡ sum d (λ i. f i * 2 ^ i) * 2 ^ r
+sum-moved f r zero = sym (zero-mul (2 ^ r))
+sum-moved f r (suc d) =
+    let one : f d * 2 ^ (r + d) ≡ f d * 2 ^ d * 2 ^ r =
+    ap (λ (k : ℕ). f d * k) (pow-add 2 r d ∙ mul-comm (2 ^ r) (2 ^ d)) ∙ sym (mul-assoc (f d) (2 ^ d) (2 ^ r)) in
+    omega (arith, sum-moved f r d, one, add-mul (sum d (λ i. f i * 2 ^ i)) (f d * 2 ^ d) (2 ^ r))

@@ -128,6 +128,18 @@ module _ {A : Type 0} (f : ℕ → A) (b : ℕ) where
       ap (λ (j : ℕ). getD (putsAt b (suc n) f l) (b + j) d) e ∙ getD-set-same (putsAt b n f l) (b + n) (f n) d k′ ∙ ap f (sym e))
       (λ m. getD-set-other (putsAt b n f l) (b + n) (b + i) (f n) d (λ e. absurd (omega arith)) ∙ getD-putsAt n l d i m k)
 
+-- a run of stores more
+pub putsAt-run : (f g : ℕ → ℕ) (b n c : ℕ) (l s : List ℕ) → s ≡ putsAt b n f l → ((i : ℕ) → i < c → g i ≡ f (n + i))
+    → putsAt (b + n) c g s ≡ putsAt b (n + c) f l
+unfolding putsAt
+putsAt-run f g b n zero l s e h = e ∙ ap (λ (k : ℕ). putsAt b k f l) (sym (add-zero n))
+putsAt-run f g b n (suc c) l s e h =
+    let at : b + n + c ≡ b + (n + c) = omega arith in
+    let more : n + c + 1 ≡ n + suc c = omega arith in
+    ap (λ (k : ℕ). set (putsAt (b + n) c g s) k (g c)) at
+    ∙ putsAt-next f b (n + c) l (putsAt (b + n) c g s) (g c) (putsAt-run f g b n c l s e (λ i p. h i (omega arith))) (h c (omega arith))
+    ∙ ap (λ (k : ℕ). putsAt b k f l) more
+
 -- `lib.Seq.sets` in two parts, and of elements given by a function; lines of a rectangle
 pub sets-append : {A : Type 0} (a b l : List A) (i : ℕ) → sets l i (a ++ b) ≡ sets (sets l i a) (i + length a) b
 sets-append [] b l i = ap (λ (k : ℕ). sets l k b) (sym (add-zero i))

@@ -15,7 +15,7 @@ use Rattle.laws.specs.Tests.{any}
 use Rattle.laws.specs.Lists.{rect, puts}
 use Rattle.laws.specs.Bits.{flag}
 use Rattle.laws.proofs.Bits.{flag-is}
-use Rattle.laws.proofs.Cases.{by-test, by-equal, cond-yes, cond-no}
+use Rattle.laws.proofs.Cases.{by-test, by-equal, cond-yes, cond-no, equal-sym}
 use Rattle.laws.proofs.Tests.{every-ext, any-out}
 use Rattle.laws.proofs.Masks.{not-both}
 use Rattle.laws.proofs.Lists.{row-end, length-rect, getD-rect, rect-ext}
@@ -29,10 +29,6 @@ use Rattle.reduction.proofs.Numbering.{index-kept, firstsOf-ext, index-
 use Rattle.reduction.proofs.Alike.{cover-alike}
 use Rattle.reduction.proofs.Cliques.{cover-clique, cover-below}
 use Rattle.reduction.proofs.Lowered.{owner-equivalence}
-
-equal-sym : (c d : ℕ) → eqb c d ≡ eqb d c
-equal-sym c d =
-    by-equal c d (λ e. eq-eqb c d e ∙ sym (eq-eqb d c (sym e))) (λ e. ne-eqb c d e ∙ sym (ne-eqb d c (λ z. e (sym z))))
 
 agree-sym : (zs os : List ℕ) (s p q : ℕ) → agreeWords zs os s p q ≡ agreeWords zs os s q p
 unfolding agreeWords

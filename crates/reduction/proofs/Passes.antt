@@ -14,7 +14,7 @@ use lib.Seq.{sets, getD-set-same, getD-set-other}
 use Rattle.laws.specs.Tests.{sum}
 use Rattle.laws.specs.Lists.{tab, puts}
 use Rattle.laws.proofs.Cases.{by-test, by-less, by-equal, cond-yes, cond-no, last-or-below}
-use Rattle.laws.proofs.Counts.{sum-le}
+use Rattle.laws.proofs.Counts.{sum-le, sum-fixed}
 use Rattle.laws.proofs.Lists.{length-tab, tab-ext}
 use Rattle.laws.proofs.Puts.{sets-append, length-puts}
 use Rattle.sheet.specs.Job.{Job, t, ins, outs, varAt, isInput}
@@ -49,10 +49,6 @@ columns-room n a w hn ha hw hp =
     let part : w * size a ≤ 2 ^ (n - a) * size a = mul-le-mul hp (le-refl (size a)) in
     let twice : w * 2 * size a ≡ w * size a + w * size a = let d : w * 2 ≡ w + w = omega arith in ap (λ (i : ℕ). i * size a) d ∙ add-mul w w (size a) in
     omega arith)
-
-sum-fixed : (n c : ℕ) → sum n (λ i. c) ≡ n * c
-sum-fixed zero c = sym (zero-mul c)
-sum-fixed (suc n) c = omega (arith, sum-fixed n c, suc-mul n c)
 
 module _ (j : Job) (once : notEachOnce (j .n) (j .m) (j .order) ≡ false) (few : j .n ≤ 12) (out : j .m ≤ 8) (f : List ℕ) (small : (i : ℕ) → getD f i 0 < 3) where
   abbrev F : List ℕ

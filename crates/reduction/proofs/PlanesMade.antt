@@ -23,15 +23,11 @@ use Rattle.laws.proofs.Bits.{has-and, has-or, has-power, has-byte}
 use Rattle.laws.proofs.Masks.{has-zero, has-cond}
 use Rattle.sheet.specs.Planes.{marks}
 use Rattle.sheet.specs.Values.{free}
+use Rattle.sheet.proofs.Made.{marks-has}
 use Rattle.reduction.specs.Packed.{size, linesWith, placesWith, packedWord, linesMask, candidatesOf, addedColumns, valueIn}
 use Rattle.reduction.proofs.Planes.{Plane, inside, marked-at}
 
--- marks one over another: their bits, and that they are few
-marks-has : (g : ℕ → ℕ) (r o : ℕ) → has (marks 0 g r) o ≡ any r (λ q. has (g q) o)
-unfolding marks
-marks-has g zero o = has-zero o
-marks-has g (suc r) o = has-or (marks 0 g r) (g r) o ∙ ap (λ (b : Bool). b || has (g r) o) (marks-has g r o)
-
+-- marks one over another are few
 marks-lt : (n : ℕ) (g : ℕ → ℕ) (r : ℕ) → ((q : ℕ) → q < r → g q < 2 ^ n) → marks 0 g r < 2 ^ n
 unfolding marks
 marks-lt n g zero h = pow-pos n

@@ -38,7 +38,7 @@ module _ (q : List ℕ) (u : ℕ) where
   put-in : u < length q → isIn (set q u 1) u ≡ true
   put-in h = ap (λ (v : ℕ). eqb v 1) (getD-set-same q u 1 0 h)
 
-  put-other : (c : ℕ) → (c ≡ u → ⊥) → isIn (set q u 1) c ≡ isIn q c
+  pub put-other : (c : ℕ) → (c ≡ u → ⊥) → isIn (set q u 1) c ≡ isIn q c
   put-other c p = ap (λ (v : ℕ). eqb v 1) (getD-set-other q u c 1 0 p)
 
   put-out : (c : ℕ) → isIn (set q u 1) c ≡ true → (c ≡ u) ⊎ (isIn q c ≡ true)

@@ -20,7 +20,7 @@ use Rattle.laws.proofs.Lists.{getD-tab}
 use Rattle.laws.proofs.Puts.{length-puts, stored}
 use Rattle.reduction.specs.Cover.{isIn, linked, edges, fewest, candidates, grown, clique, leave, owned, rounds, cover}
 use Rattle.reduction.specs.Keys.{gone, lowered, keeping, leastKey, degree, firstKey, Growth, Stand, leftKeys, keptKeys, joining, growing, turn, turns, Mutual}
-use Rattle.reduction.proofs.Rounds.{in-tab, in-all}
+use Rattle.reduction.proofs.Rounds.{in-tab, in-all, put-other}
 use Rattle.reduction.proofs.Keys.{turn-alone, turn-opened}
 use Rattle.reduction.proofs.Fewest.{key, Keyed, least-found, fewest-empty}
 use Rattle.reduction.proofs.Running.{count-but, sum-flags, near, among, Running, running-ext, running-same, leave-one, lowers-none, stays, keep-one}
@@ -108,9 +108,6 @@ module _ (w : ℕ) (graph : List ℕ) (both : Mutual w graph) (wide : w ≤ 512)
         self : (c : ℕ) → c ≡ u → isIn (set q u 1) c ≡ true
         self c e = ap (isIn (set q u 1)) e ∙ ap (λ (v : ℕ). eqb v 1) (getD-set-same q u 1 0 fits)
 
-        other : (c : ℕ) → (c ≡ u → ⊥) → isIn (set q u 1) c ≡ isIn q c
-        other c n = ap (λ (v : ℕ). eqb v 1) (getD-set-other q u c 1 0 n)
-
         less : (c : ℕ) → c < w → remain left (set q u 1) c ≡ (remain left q c && not (eqb u c))
         less c l =
             by-equal c u
@@ -118,7 +115,7 @@ module _ (w : ℕ) (graph : List ℕ) (both : Mutual w graph) (wide : w ≤ 512)
             ap (λ (b : Bool). isIn left c && not b) (self c e) ∙ and-no (isIn left c)
             ∙ sym (ap (λ (b : Bool). remain left q c && not b) (eq-eqb u c (sym e)) ∙ and-no (remain left q c)))
             (λ n.
-            ap (λ (b : Bool). isIn left c && not b) (other c n) ∙ and-yes (remain left q c)
+            ap (λ (b : Bool). isIn left c && not b) (put-other q u c n) ∙ and-yes (remain left q c)
             ∙ sym (ap (λ (b : Bool). remain left q c && not b) (ne-eqb u c (λ x. n (sym x)))))
 
         numbers′ : (c : ℕ) → c < w → getD (set (r .owner) u g) c 0 ≡ cond (isIn (set q u 1) c) g (getD old c 0)
@@ -127,7 +124,7 @@ module _ (w : ℕ) (graph : List ℕ) (both : Mutual w graph) (wide : w ≤ 512)
             (λ e.
             ap (λ (i : ℕ). getD (set (r .owner) u g) i 0) e ∙ getD-set-same (r .owner) u g 0 (omega (arith, p .owner-long))
             ∙ sym (cond-yes (isIn (set q u 1) c) g (getD old c 0) (self c e)))
-            (λ n. getD-set-other (r .owner) u c g 0 n ∙ p .numbers c l ∙ ap (λ (b : Bool). cond b g (getD old c 0)) (sym (other c n)))
+            (λ n. getD-set-other (r .owner) u c g 0 n ∙ p .numbers c l ∙ ap (λ (b : Bool). cond b g (getD old c 0)) (sym (put-other q u c n)))
 
         within′ : (c : ℕ) → c < w → isIn (candidates w graph s u) c ≡ true → remain left (set q u 1) c ≡ true
         within′ c l e =

@@ -40,7 +40,7 @@ added-has : (k v f x o : ℕ) → has (added k v f x) o ≡ (agrees k v x && has
 unfolding added
 added-has k v f x o = has-cond (agrees k v x) f o
 
-marks-has : (g : ℕ → ℕ) (r o : ℕ) → has (marks 0 g r) o ≡ any r (λ q. has (g q) o)
+pub marks-has : (g : ℕ → ℕ) (r o : ℕ) → has (marks 0 g r) o ≡ any r (λ q. has (g q) o)
 unfolding marks
 marks-has g zero o = has-zero o
 marks-has g (suc r) o = has-or (marks 0 g r) (g r) o ∙ ap (λ (b : Bool). b || has (g r) o) (marks-has g r o)
