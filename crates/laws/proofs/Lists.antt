@@ -1,7 +1,7 @@
 -- Laws of `tab`, `rect` and `joined`.
 -- Assumes nothing.
 use mathlib.Core.Path.{_≡_, refl, sym, _∙_, ap, ap₂}
-use mathlib.Core.List.{List, [], _∷_, _++_}
+use mathlib.Core.List.{List, [], _∷_, _++_, append-nil, append-assoc}
 use Prim.Native.Nat.{ℕ, zero, suc, _+_, _-_, _*_, _<_, _≤_}
 use native.Mathlib.Nat.{not-suc-le-zero, suc-mul, zero-mul, mul-le-mul-right}
 use native.Mathlib.Numerals.{add-one}
@@ -82,3 +82,9 @@ module _ {A : Type 0} (f : ℕ → List A) where
   pub length-joined : (n : ℕ) → length (joined n f) ≡ sum n (λ i. length (f i))
   length-joined zero = refl
   length-joined (suc n) = length-append (joined n f) (f n) ∙ ap (λ (k : ℕ). k + length (f n)) (length-joined n)
+
+-- from the front
+pub joined-front : {A : Type 0} (f : ℕ → List A) (n : ℕ) → joined (suc n) f ≡ f 0 ++ joined n (λ i. f (suc i))
+joined-front f zero = sym (append-nil (f 0))
+joined-front f (suc n) =
+    ap (λ (x : List _). x ++ f (suc n)) (joined-front f n) ∙ append-assoc (f 0) (joined n (λ i. f (suc i))) (f (suc n))

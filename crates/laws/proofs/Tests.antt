@@ -1,7 +1,7 @@
 -- Laws of `every` and `any`.
 -- Assumes nothing.
 use mathlib.Core.Path.{_≡_, refl, sym, _∙_, ap, ap₂}
-use mathlib.Core.Bool.{Bool, true, false, not, _&&_, _||_, or-true, false≢true, true≢false}
+use mathlib.Core.Bool.{Bool, true, false, not, _&&_, _||_, or-true, or-false, or-assoc, false≢true, true≢false}
 use Prim.Native.Nat.{ℕ, zero, suc, _+_, _<_, _≤_}
 use native.Mathlib.Nat.{not-suc-le-zero}
 use native.Mathlib.Numerals.{add-one}
@@ -105,3 +105,9 @@ any-one p k n =
 pub any-beside : (b : Bool) (f : ℕ → Bool) (n : ℕ) → any n (λ i. b && f i) ≡ (b && any n f)
 any-beside true f n = refl
 any-beside false f n = any-none (λ i. false) n (λ i l. refl)
+
+-- from the front
+pub any-front : (f : ℕ → Bool) (n : ℕ) → any (suc n) f ≡ (f 0 || any n (λ i. f (suc i)))
+any-front f zero = sym (or-false (f 0))
+any-front f (suc n) =
+    ap (λ (b : Bool). b || f (suc n)) (any-front f n) ∙ or-assoc (f 0) (any n (λ i. f (suc i))) (f (suc n))

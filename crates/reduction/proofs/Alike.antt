@@ -1,13 +1,13 @@
 -- Graphs that link the same columns have the same cover.
 -- Assumes nothing.
-use mathlib.Core.Path.{_≡_, refl, sym, _∙_, ap, ap₂}
+use mathlib.Core.Path.{_≡_, refl, sym, _∙_, ap}
 use mathlib.Core.Bool.{Bool, true, false, cond, not, _&&_}
 use mathlib.Core.List.{List}
 use Prim.Native.Nat.{ℕ, zero, suc, _+_, _*_, _<_}
 use native.Mathlib.Omega.{arith}
 use borrow.Author.Tests.{eq-eqb}
-use lib.Dec.{eqb, ltb}
-use lib.ListN.{getD, set, replicate}
+use lib.Dec.{eqb}
+use lib.ListN.{set, replicate}
 use Rattle.laws.specs.Tests.{any}
 use Rattle.laws.specs.Lists.{tab}
 use Rattle.laws.specs.Bits.{flag}

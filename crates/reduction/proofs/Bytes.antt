@@ -12,7 +12,7 @@ use lib.Bits.{bitAnd, bitOr, and-shr, or-shr, and-mod, or-mod}
 use lib.Dec.{eqb}
 use lib.ListN.{length, getD, set, length-set}
 use lib.Pow.{pow-pos, split, shr-mod}
-use lib.Seq.{getD-set-same, getD-set-other, sets}
+use lib.Seq.{getD-set-same, getD-set-other}
 use Rattle.laws.specs.Tests.{every, any}
 use Rattle.laws.specs.Lists.{puts, putsAt}
 use Rattle.laws.specs.Bits.{flag}

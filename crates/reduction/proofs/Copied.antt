@@ -3,7 +3,7 @@
 use mathlib.Core.Path.{_≡_, sym, _∙_, ap}
 use mathlib.Core.Bool.{false}
 use mathlib.Core.List.{List}
-use Prim.Native.Nat.{ℕ, _+_, _*_, _<_, _≤_}
+use Prim.Native.Nat.{ℕ, _*_, _<_, _≤_}
 use native.Mathlib.Omega.{arith}
 use borrow.Author.Tests.{eq-eqb, ne-eqb}
 use lib.Dec.{eqb}
@@ -40,7 +40,7 @@ module _ (j : Job) (s : List ℕ) where
   kept-words h old = sym (cond-no (eqb (reductionRefusal j s) 0) (sets old 0 (nodeWords (finalNodes j s))) old (ne-eqb (reductionRefusal j s) 0 h))
 
   module _ (e : reductionRefusal j s ≡ 0) where
-    accepted : sheetRefusal j s ≡ 0
+    pub accepted : sheetRefusal j s ≡ 0
     unfolding reductionRefusal
     accepted =
         by-equal (sheetRefusal j s) 0 (λ z. z)
@@ -49,7 +49,7 @@ module _ (j : Job) (s : List ℕ) where
     pub few-variables : t j ≤ 20
     few-variables = let r = readable (j .n) (j .m) (j .K) (j .L) (j .order) s accepted in omega (arith, r .inputs, r .outputs)
 
-    narrow : refuse7 j (table j s) ≡ false
+    pub narrow : refuse7 j (table j s) ≡ false
     unfolding reductionRefusal
     narrow =
         by-test (refuse7 j (table j s))
@@ -58,7 +58,7 @@ module _ (j : Job) (s : List ℕ) where
         absurd (omega arith))
         (λ t. t)
 
-    nodes-few : length (finalNodes j s) ≤ 10240
+    pub nodes-few : length (finalNodes j s) ≤ 10240
     unfolding finalNodes finalTable
     nodes-few = nodes-fit j s accepted narrow
 

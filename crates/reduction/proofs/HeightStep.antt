@@ -1,9 +1,9 @@
 -- One height further down, as the code goes: its columns, cliques, child numbers and planes are those of the table after the merge there.
 -- Assumes nothing.
-use mathlib.Core.Path.{_≡_, refl, sym, _∙_, ap, ap₂}
-use mathlib.Core.Bool.{Bool, true, false, _&&_}
+use mathlib.Core.Path.{_≡_, sym, _∙_, ap, ap₂}
+use mathlib.Core.Bool.{Bool, _&&_}
 use mathlib.Core.List.{List}
-use Prim.Native.Nat.{ℕ, suc, _+_, _-_, _*_, _/_, _%_, _^_, _<_, _≤_}
+use Prim.Native.Nat.{ℕ, _-_, _*_, _<_, _≤_}
 use native.Mathlib.Nat.{mul-le-mul-right}
 use native.Mathlib.Omega.{arith}
 use lib.Dec.{eqb}
@@ -15,7 +15,7 @@ use Rattle.laws.proofs.Tests.{any-ext}
 use Rattle.laws.proofs.Filled.{laid}
 use Rattle.laws.proofs.Puts.{stored}
 use Rattle.reduction.specs.Numbering.{indexIn, firstsOf}
-use Rattle.reduction.specs.Columns.{entry, same, numberIn, firsts}
+use Rattle.reduction.specs.Columns.{entry, numberIn, firsts}
 use Rattle.reduction.specs.Cover.{cover}
 use Rattle.reduction.specs.Merge.{graph, merge}
 use Rattle.reduction.specs.Packed.{size, addedColumns}

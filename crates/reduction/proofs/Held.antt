@@ -4,7 +4,7 @@ use mathlib.Core.Path.{_≡_, refl, sym, _∙_, ap}
 use mathlib.Core.Bool.{Bool, cond, _&&_, and-false}
 use mathlib.Core.List.{List, [], _∷_, _++_}
 use Prim.Native.Nat.{ℕ, zero, suc, _+_, _*_, _<_, _≤_}
-use native.Mathlib.Nat.{not-suc-le-zero, zero-add}
+use native.Mathlib.Nat.{not-suc-le-zero}
 use native.Mathlib.Numerals.{add-one}
 use native.Mathlib.Omega.{arith}
 use borrow.Author.Tests.{eq-eqb, eqb-true, eqb-false, lt-ltb, le-ltb, le-leb, lt-leb}
@@ -12,9 +12,9 @@ use lib.Dec.{eqb, ltb, leb}
 use lib.ListN.{length, getD, set, length-set, length-append, List·getD-append, replicate, length-replicate}
 use lib.Seq.{getD-at, getD-set-same, getD-set-other, sets}
 use Rattle.laws.specs.Tests.{least}
-use Rattle.laws.specs.Lists.{tab, puts, putsAt}
+use Rattle.laws.specs.Lists.{tab, puts}
 use Rattle.laws.proofs.Cases.{by-test, by-less, last-or-below, cond-yes, cond-no, cond-each}
-use Rattle.laws.proofs.Find.{find-ext, least-le}
+use Rattle.laws.proofs.Find.{find-ext}
 use Rattle.laws.proofs.Lists.{row-end, tab-of}
 use Rattle.laws.proofs.Puts.{puts-ext, puts-sets}
 use Rattle.reduction.specs.Numbering.{indexIn, firstsOf}

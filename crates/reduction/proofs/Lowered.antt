@@ -11,13 +11,11 @@ use native.Mathlib.Omega.{arith}
 use borrow.Author.Tests.{eq-eqb, eqb-true, ne-eqb}
 use lib.Dec.{eqb}
 use lib.ListN.{length, getD}
-use Rattle.laws.specs.Tests.{any}
 use Rattle.laws.specs.Lists.{tab, rect}
 use Rattle.laws.specs.Bits.{flag}
 use Rattle.laws.proofs.Bits.{flag-is}
 use Rattle.laws.proofs.Cases.{by-equal, and-split, and-join, same-test}
-use Rattle.laws.proofs.Tests.{every-of, every-at, any-out}
-use Rattle.laws.proofs.Masks.{not-both}
+use Rattle.laws.proofs.Tests.{every-of, every-at}
 use Rattle.laws.proofs.Lists.{length-tab, getD-tab, getD-rect}
 use Rattle.reduction.specs.Numbering.{indexIn, firstsOf}
 use Rattle.reduction.specs.Columns.{entry, same, numberIn, firsts}
@@ -28,7 +26,7 @@ use Rattle.reduction.specs.Packed.{size}
 use Rattle.reduction.specs.Distinct.{sameWords, agreeWords, linkedWords, sameOwner}
 use Rattle.reduction.proofs.Numbering.{Equivalence, numbered, firstsOf-ext, index-ext, named-equivalence, named-index, named-firsts}
 use Rattle.reduction.proofs.Numbers.{same-entry, entry-same, same-equivalence, first-below, firsts-rise, number-below, number-same, number-first, numberIn-equal}
-use Rattle.reduction.proofs.Agree.{compatible-entry, entry-compatible, compatible-sym}
+use Rattle.reduction.proofs.Agree.{compatible-entry, entry-compatible}
 use Rattle.reduction.proofs.Alike.{cover-alike}
 use Rattle.reduction.proofs.Cliques.{cover-clique, cover-maximal}
 use Rattle.reduction.proofs.Merged.{graph-is, graph-sym, merge-joins, merge-parts}

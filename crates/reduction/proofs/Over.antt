@@ -1,6 +1,6 @@
 -- The nodes above the columns of a height, from the arrays that hold the columns' numbers and values.
 -- Assumes nothing.
-use mathlib.Core.Path.{_≡_, refl, sym, _∙_, ap, ap₂}
+use mathlib.Core.Path.{_≡_, sym, _∙_, ap, ap₂}
 use mathlib.Core.Bool.{Bool, true, false, cond}
 use mathlib.Core.List.{List}
 use Prim.Native.Nat.{ℕ, _+_, _*_, _<_, _≤_}
@@ -13,7 +13,7 @@ use Rattle.laws.proofs.Cases.{by-test, cond-yes, cond-no}
 use Rattle.laws.proofs.Lists.{tab-ext}
 use Rattle.laws.proofs.Puts.{stored}
 use Rattle.reduction.specs.Packed.{valueIn}
-use Rattle.reduction.specs.Diagram.{Node, node}
+use Rattle.reduction.specs.Diagram.{node}
 use Rattle.reduction.specs.Lowering.{candidateCount, firstsBelow, cliquesBelow, numberBelow, nodesOver}
 use Rattle.reduction.proofs.LowerSteps.{cands-few, child-few, cliques-fit}
 

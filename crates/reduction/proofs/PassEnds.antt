@@ -1,17 +1,16 @@
 -- The pass over the heights of an accepted job and sheet: what it starts from, what it ends with, and the answers.
 -- Assumes nothing.
 use mathlib.Core.Path.{_≡_, refl, sym, _∙_, ap, ap₂}
-use mathlib.Core.Bool.{Bool, true, false, cond}
-use mathlib.Core.List.{List, []}
-use Prim.Native.Nat.{ℕ, zero, suc, _+_, _-_, _*_, _^_, _<_, _≤_}
+use mathlib.Core.Bool.{true, false}
+use mathlib.Core.List.{List}
+use Prim.Native.Nat.{ℕ, suc, _+_, _-_, _*_, _^_, _<_, _≤_}
 use native.Mathlib.Nat.{not-suc-le-zero, zero-mul, zero-add, mul-le-mul}
 use native.Mathlib.Omega.{arith}
 use borrow.Author.Tests.{eq-eqb, ne-eqb, le-ltb}
-use lib.Dec.{eqb, ltb}
+use lib.Dec.{eqb}
 use lib.ListN.{length, getD, replicate, length-replicate}
 use lib.Pow.{pow-mono}
 use lib.Seq.{sets}
-use Rattle.laws.specs.Tests.{sum}
 use Rattle.laws.specs.Lists.{puts}
 use Rattle.laws.proofs.Cases.{by-less, cond-yes, cond-no}
 use Rattle.laws.proofs.Tests.{any-of, any-none}
@@ -20,20 +19,19 @@ use Rattle.laws.proofs.Lists.{row-end}
 use Rattle.laws.proofs.Filled.{laid}
 use Rattle.laws.proofs.Puts.{length-puts}
 use Rattle.sheet.specs.Job.{Job, t, ins, outs}
-use Rattle.sheet.specs.Refusals.{notEachOnce, sheetRefusal}
+use Rattle.sheet.specs.Refusals.{sheetRefusal}
 use Rattle.sheet.specs.Table.{table, tableAfter}
 use Rattle.sheet.specs.Planes.{Readable}
 use Rattle.sheet.proofs.Orders.{ins-all, outs-all}
 use Rattle.sheet.proofs.Least.{readable}
 use Rattle.sheet.proofs.Made.{table-length, table-below}
-use Rattle.reduction.specs.Columns.{entry, firsts, firstsAt, width, layers, widthIn}
-use Rattle.reduction.specs.Merge.{merged, reduced, tooWide, refuse7}
+use Rattle.reduction.specs.Columns.{entry, firsts, firstsAt, width}
+use Rattle.reduction.specs.Merge.{merged, tooWide, refuse7}
 use Rattle.reduction.specs.Diagram.{Node, nodes, nodeWords}
 use Rattle.reduction.specs.Packed.{packedWord, placesWith}
 use Rattle.reduction.specs.Reduction.{Reduction, reductionRefusal, finalTable, finalNodes, reduction}
 use Rattle.reduction.proofs.Numbers.{first-below}
 use Rattle.reduction.proofs.Final.{width-top, width-bottom}
-use Rattle.reduction.proofs.Planes.{Plane}
 use Rattle.reduction.proofs.PlanesMade.{packed-plane}
 use Rattle.reduction.proofs.Products.{plane-ext}
 use Rattle.reduction.proofs.Stages.{topNodes, top-all, top-length}

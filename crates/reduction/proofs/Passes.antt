@@ -2,35 +2,35 @@
 -- Assumes nothing.
 use mathlib.Core.Path.{_≡_, refl, sym, _∙_, ap, ap₂}
 use mathlib.Core.Bool.{Bool, true, false, cond}
-use mathlib.Core.List.{List, [], _∷_, _++_}
+use mathlib.Core.List.{List}
 use Prim.Native.Nat.{ℕ, zero, suc, _+_, _-_, _*_, _/_, _%_, _^_, _<_, _≤_}
-use native.Mathlib.Nat.{mul-le-mul, le-refl, add-mul, suc-mul, zero-mul}
+use native.Mathlib.Nat.{mul-le-mul, le-refl, add-mul}
 use native.Mathlib.Omega.{arith}
 use borrow.Author.Tests.{ltb-false, lt-ltb, le-ltb, leb-true, leb-false, le-leb}
-use lib.Dec.{eqb, ltb, leb}
-use lib.ListN.{length, getD, set, replicate, length-set, length-append}
-use lib.Pow.{pow-pos, pow-add, pow-mono}
+use lib.Dec.{eqb, leb}
+use lib.ListN.{length, getD, set, replicate, length-set}
+use lib.Pow.{pow-add, pow-mono}
 use lib.Seq.{sets, getD-set-same, getD-set-other}
 use Rattle.laws.specs.Tests.{sum}
 use Rattle.laws.specs.Lists.{tab, puts}
-use Rattle.laws.proofs.Cases.{by-test, by-less, by-equal, cond-yes, cond-no, last-or-below}
+use Rattle.laws.proofs.Cases.{by-test, by-less, cond-yes, last-or-below}
 use Rattle.laws.proofs.Counts.{sum-le, sum-fixed}
-use Rattle.laws.proofs.Lists.{length-tab, tab-ext}
+use Rattle.laws.proofs.Lists.{tab-ext}
 use Rattle.laws.proofs.Puts.{sets-append, length-puts}
 use Rattle.sheet.specs.Job.{Job, t, ins, outs, varAt, isInput}
 use Rattle.sheet.specs.Refusals.{notEachOnce}
 use Rattle.sheet.proofs.Orders.{ins-rise}
-use Rattle.reduction.specs.Columns.{entry, firsts, firstsAt, numberAt, numberIn, width, layers, widthIn}
-use Rattle.reduction.specs.Merge.{merge, mergeAt, merged, reduced, tooWide}
+use Rattle.reduction.specs.Columns.{entry, firsts, firstsAt, numberAt, width, layers, widthIn}
+use Rattle.reduction.specs.Merge.{mergeAt, merged, reduced, tooWide}
 use Rattle.reduction.specs.Diagram.{Node, node, nodeAt, nodeWords}
 use Rattle.reduction.specs.Packed.{size, valueIn}
 use Rattle.reduction.specs.Lowering.{firstsBelow, cliquesBelow, numberBelow, productBelow, nodesOver}
 use Rattle.reduction.proofs.Numbers.{width-few}
-use Rattle.reduction.proofs.Final.{width-top, width-bottom, width-merge, merged-below}
+use Rattle.reduction.proofs.Final.{width-top, width-merge, merged-below}
 use Rattle.reduction.proofs.Planes.{Plane}
 use Rattle.reduction.proofs.Children.{ins-input, ins-output, outs-input, outs-output, ins-below, outs-below}
 use Rattle.reduction.proofs.Refined.{width-layer}
-use Rattle.reduction.proofs.Stages.{width-at, topNodes, top-length, above-width, firstNode, input-node, output-node}
+use Rattle.reduction.proofs.Stages.{width-at, topNodes, top-length, firstNode, input-node, output-node}
 use Rattle.reduction.proofs.LowerSteps.{cliques-fit}
 use Rattle.reduction.proofs.Over.{went}
 use Rattle.reduction.proofs.PlanesMade.{length-added}

@@ -1,19 +1,19 @@
 -- Planes of packed words: what each bit of a plane says of its columns, and that equal and compatible columns are told by their words.
 -- Assumes nothing.
 use mathlib.Core.Path.{_≡_, refl, sym, _∙_, ap, ap₂}
-use mathlib.Core.Bool.{Bool, true, false, cond, not, _&&_, _||_}
+use mathlib.Core.Bool.{Bool, true, false, not, _&&_, _||_}
 use mathlib.Core.List.{List}
-use Prim.Native.Nat.{ℕ, zero, suc, _+_, _-_, _*_, _/_, _%_, _^_, _<_, _≤_}
+use Prim.Native.Nat.{ℕ, _+_, _-_, _*_, _/_, _%_, _^_, _<_, _≤_}
 use native.Mathlib.Omega.{arith}
-use borrow.Author.Tests.{lt-ltb, ltb-true, eq-eqb, eqb-true, ne-eqb}
+use borrow.Author.Tests.{lt-ltb, ltb-true, eq-eqb, eqb-true}
 use lib.Dec.{eqb, ltb}
 use lib.Bits.{bitAnd, bitOr, and-lt, or-lt}
-use lib.ListN.{length, getD}
+use lib.ListN.{getD}
 use lib.Pow.{pow-lt, shr-lt}
 use Rattle.laws.specs.Tests.{any}
-use Rattle.laws.specs.Bits.{bit, has}
+use Rattle.laws.specs.Bits.{has}
 use Rattle.laws.proofs.Bits.{has-and, has-or}
-use Rattle.laws.proofs.Cases.{by-test, by-less, by-equal, and-split, and-join, same-test}
+use Rattle.laws.proofs.Cases.{by-test, by-less, by-equal, and-split, and-join}
 use Rattle.laws.proofs.Tests.{every-of, every-at, any-none, any-out}
 use Rattle.laws.proofs.Masks.{same-has, some-bit, not-both}
 use Rattle.reduction.specs.Compatible.{opposite}

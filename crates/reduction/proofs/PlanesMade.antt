@@ -2,7 +2,7 @@
 -- its first place.
 -- Assumes nothing.
 use mathlib.Core.Path.{_≡_, refl, sym, _∙_, ap, ap₂}
-use mathlib.Core.Bool.{Bool, true, false, not, cond, _&&_, _||_, and-true, and-false, and-assoc, and-comm}
+use mathlib.Core.Bool.{Bool, true, false, not, cond, _&&_, and-true, and-false, and-assoc, and-comm}
 use mathlib.Core.List.{List}
 use Prim.Native.Nat.{ℕ, zero, suc, _+_, _-_, _*_, _%_, _^_, _<_, _≤_}
 use native.Mathlib.Nat.{add-zero, zero-mul}
@@ -19,8 +19,8 @@ use Rattle.laws.proofs.Cases.{by-less, by-equal, cond-yes, cond-no, cond-both}
 use Rattle.laws.proofs.Tests.{every-at, any-ext, any-one, any-beside}
 use Rattle.laws.proofs.Lists.{row-end}
 use Rattle.laws.proofs.Puts.{getD-puts, getD-unput, length-puts, stored, getD-unputAt, getD-beforeAt, getD-putsAt, length-putsAt}
-use Rattle.laws.proofs.Bits.{has-and, has-or, has-power, has-byte}
-use Rattle.laws.proofs.Masks.{has-zero, has-cond}
+use Rattle.laws.proofs.Bits.{has-and, has-power, has-byte}
+use Rattle.laws.proofs.Masks.{has-cond}
 use Rattle.sheet.specs.Planes.{marks}
 use Rattle.sheet.specs.Values.{free}
 use Rattle.sheet.proofs.Made.{marks-has}

@@ -1,7 +1,7 @@
 -- The planes of the cliques' products are those of the columns after the merge.
 -- Assumes nothing.
-use mathlib.Core.Path.{_≡_, refl, sym, _∙_, ap, ap₂}
-use mathlib.Core.Bool.{Bool, true, false, cond, _&&_}
+use mathlib.Core.Path.{_≡_, refl, sym, _∙_, ap}
+use mathlib.Core.Bool.{Bool, true, false, _&&_}
 use mathlib.Core.List.{List}
 use Prim.Native.Nat.{ℕ, _+_, _-_, _*_, _^_, _<_, _≤_}
 use native.Mathlib.Omega.{arith}
@@ -9,16 +9,13 @@ use borrow.Author.Tests.{eq-eqb, eqb-true, ltb-true}
 use lib.Dec.{eqb, ltb}
 use lib.ListN.{length, getD}
 use Rattle.laws.specs.Tests.{any}
-use Rattle.laws.proofs.Cases.{by-test, by-equal, cond-both, and-split, and-join, same-test, no-test}
+use Rattle.laws.proofs.Cases.{by-test, by-equal, cond-both, and-split, same-test}
 use Rattle.laws.proofs.Tests.{any-at, any-ext}
-use Rattle.laws.proofs.Masks.{not-both}
 use Rattle.laws.proofs.Lists.{length-tab, getD-tab}
-use Rattle.sheet.specs.Values.{free}
 use Rattle.reduction.specs.Numbering.{indexIn, firstsOf}
-use Rattle.reduction.specs.Columns.{entry, numberIn, firsts}
+use Rattle.reduction.specs.Columns.{entry, firsts}
 use Rattle.reduction.specs.Cover.{isIn, cover}
 use Rattle.reduction.specs.Merge.{holds, product, graph, merge}
-use Rattle.reduction.specs.Packed.{size}
 use Rattle.reduction.specs.Distinct.{sameOwner}
 use Rattle.reduction.proofs.Numbering.{numbered, index-same, index-equal, index-first}
 use Rattle.reduction.proofs.Numbers.{first-below, number-first}

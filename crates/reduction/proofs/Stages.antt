@@ -2,7 +2,7 @@
 -- holds the nodes above that height. The nodes of a height from the numbers that its columns' children have after the next merge.
 -- Assumes nothing.
 use mathlib.Core.Path.{_≡_, refl, sym, _∙_, ap, ap₂}
-use mathlib.Core.Bool.{Bool, true, false, cond}
+use mathlib.Core.Bool.{true, false, cond}
 use mathlib.Core.List.{List, [], _∷_, _++_, append-assoc, append-nil}
 use Prim.Native.Nat.{ℕ, zero, suc, _+_, _-_, _*_, _/_, _%_, _^_, _<_, _≤_}
 use native.Mathlib.Omega.{arith}
@@ -12,19 +12,18 @@ use lib.ListN.{length, getD, length-append}
 use lib.Pow.{pow-pos}
 use Rattle.laws.specs.Tests.{sum}
 use Rattle.laws.specs.Lists.{tab}
-use Rattle.laws.proofs.Cases.{by-equal, by-less, cond-yes, cond-no, last-or-below}
-use Rattle.laws.proofs.Lists.{length-tab, tab-of, tab-ext}
+use Rattle.laws.proofs.Cases.{by-equal, by-less, cond-yes, cond-no}
+use Rattle.laws.proofs.Lists.{length-tab, tab-of}
 use Rattle.laws.proofs.Powers.{place-below}
 use Rattle.sheet.specs.Job.{Job, t, ins, outs, varAt, isInput}
 use Rattle.sheet.specs.Refusals.{notEachOnce}
-use Rattle.reduction.specs.Columns.{entry, same, numberIn, firsts, firstsAt, numberAt, width, layers, layer, widthIn}
+use Rattle.reduction.specs.Columns.{entry, numberIn, firsts, firstsAt, numberAt, width, layers, layer, widthIn}
 use Rattle.reduction.specs.Merge.{merged, reduced}
 use Rattle.reduction.specs.Diagram.{Node, node, nodesAbove, nodeOf, inputNode, outputNode, topValue, nodeAt, nodesTo, nodes}
 use Rattle.reduction.proofs.Numbers.{first-below, number-below}
 use Rattle.reduction.proofs.Final.{width-top, width-bottom, firsts-final, numbers-final, lines-final}
 use Rattle.reduction.proofs.Candidates.{first-least}
 use Rattle.reduction.proofs.Children.{ins-below, outs-below, outs-output, ins-input, ins-output, layer-at}
-use Rattle.reduction.proofs.Refined.{width-layer}
 
 -- one column has the smallest prefix 0
 pub one-first : (n a b : ℕ) (g : List ℕ) → length (firsts n a b g) ≡ 1 → firsts n a b g ≡ 0 ∷ []

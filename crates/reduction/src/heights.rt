@@ -1,6 +1,6 @@
 // One height further down: the columns below, their cliques, the cliques' products and the nodes above them.
 ghost use mathlib.Core.Path.{_≡_};
-ghost use mathlib.Core.Bool.{Bool, true, false, cond};
+ghost use mathlib.Core.Bool.{true, false, cond};
 ghost use Prim.Native.Nat.{ℕ, _≤_, _<_, _+_, _*_};
 ghost use lib.Dec.{leb};
 ghost use lib.ListN.{length, getD};

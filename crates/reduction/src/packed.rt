@@ -1,10 +1,10 @@
 // The table as planes of packed words, and the planes of the columns one height below.
 ghost use mathlib.Core.Path.{_≡_};
 ghost use mathlib.Core.Bool.{cond};
-ghost use Prim.Native.Nat.{ℕ, _≤_, _<_, _+_, _-_, _*_, _/_, _%_, _^_};
+ghost use Prim.Native.Nat.{_≤_, _<_, _+_, _-_, _*_, _/_, _%_, _^_};
 ghost use lib.Dec.{eqb};
 ghost use lib.Bits.{bitAnd, bitOr};
-ghost use lib.ListN.{getD, replicate};
+ghost use lib.ListN.{getD};
 ghost use Rattle.laws.specs.Lists.{puts};
 ghost use Rattle.sheet.specs.Planes.{marks};
 ghost use Rattle.reduction.specs.Packed.{placesWith, packedWord, half, linesMask, candidatesOf};

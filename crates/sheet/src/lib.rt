@@ -7,7 +7,6 @@ mod planes;
 mod records;
 
 ghost use mathlib.Core.Path.{_≡_};
-ghost use Prim.Native.Nat.{ℕ};
 ghost use Rattle.sheet.specs.Job.{job};
 ghost use Rattle.sheet.specs.Refusals.{sheetRefusal};
 ghost use Rattle.sheet.specs.Table.{tableAfter};

@@ -1,9 +1,6 @@
 // The job's numbers and its order: refusals 1 and 2, and where a variable stands.
 ghost use mathlib.Core.Path.{_≡_};
-ghost use Prim.Native.Nat.{ℕ, _≤_, _<_, _+_};
-ghost use lib.Dec.{eqb};
-ghost use lib.ListN.{length, getD};
-ghost use Rattle.laws.specs.Tests.{count, find};
+ghost use Prim.Native.Nat.{_≤_, _<_, _+_};
 ghost use Rattle.sheet.specs.Refusals.{outOfRange, times, eachOnce, notEachOnce, placeOf};
 use crate::numbers::wide;
 

@@ -1,9 +1,7 @@
 // Refusal 5 by pairs of records, refusal 6 by masks of inputs.
 ghost use mathlib.Core.Path.{_≡_};
-ghost use Prim.Native.Nat.{ℕ, _≤_, _<_, _/_, _^_};
-ghost use lib.ListN.{length, getD};
+ghost use Prim.Native.Nat.{_≤_, _<_, _/_, _^_};
 ghost use Rattle.laws.specs.Tests.{any};
-ghost use Rattle.sheet.specs.Job.{outputByte};
 ghost use Rattle.sheet.specs.Pairs.{hitIn, anyHit, belowMask, crosses, anyCrosses};
 use crate::numbers::power;
 use crate::numbers::wide;

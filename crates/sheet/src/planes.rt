@@ -1,9 +1,9 @@
 // Planes: for each of 4,096 places the outputs that the records matching it force. Records that test none of the upper four bits of a
 // place are marked once, in a row of 256 places, and the row is spread over the plane.
 ghost use mathlib.Core.Path.{_≡_};
-ghost use Prim.Native.Nat.{ℕ, _≤_, _<_, _+_, _*_, _/_, _%_, _^_};
-ghost use lib.Bits.{bitAnd, bitOr};
-ghost use lib.ListN.{length, getD};
+ghost use Prim.Native.Nat.{_≤_, _<_, _+_, _*_, _/_, _%_, _^_};
+ghost use lib.Bits.{bitOr};
+ghost use lib.ListN.{getD};
 ghost use Rattle.laws.specs.Lists.{puts, putsAt};
 ghost use Rattle.laws.specs.Bits.{bit};
 ghost use Rattle.sheet.specs.Planes.{added, highForce, lowForce, highAdded, lowAdded, marks, numberTo, CountsUp};

@@ -1,7 +1,6 @@
 // The records of a sheet: refusals 3 and 4, and their fields as arrays.
 ghost use mathlib.Core.Path.{_≡_};
-ghost use Prim.Native.Nat.{ℕ, _≤_, _<_, _+_, _*_, _/_};
-ghost use lib.ListN.{length, getD};
+ghost use Prim.Native.Nat.{_≤_, _<_, _+_, _*_, _/_};
 ghost use Rattle.laws.specs.Lists.{puts};
 ghost use Rattle.sheet.specs.Records.{recordCount, byte};
 ghost use Rattle.sheet.specs.Refusals.{refuse3, malformed, anyMalformed};

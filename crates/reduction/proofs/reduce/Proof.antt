@@ -1,10 +1,7 @@
 -- `reduction::reduce` meets its contract.
 -- Assumes nothing.
-use mathlib.Core.Path.{_≡_, sym, _∙_, ap}
-use Prim.Native.Nat.{ℕ, _*_, _≤_}
-use lib.ListN.{getD}
-use Rattle.laws.specs.Lists.{puts}
-use Rattle.sheet.specs.Job.{Job, job}
+use mathlib.Core.Path.{_≡_, sym, _∙_}
+use Rattle.sheet.specs.Job.{job}
 use Rattle.reduction.specs.Reduction.{reductionRefusal}
 use Rattle.reduction.proofs.Copied.{refusal-is, kept-widths, kept-words, few-variables, node-count, words-few, copied-widths, copied-words}
 use native.Mathlib.Omega.{arith}

@@ -1,9 +1,9 @@
 -- `reduction::heights::lower` meets its contract.
 -- Assumes nothing.
-use mathlib.Core.Path.{_≡_, sym, _∙_}
-use Prim.Native.Nat.{_*_, _<_, _≤_}
+use mathlib.Core.Path.{_∙_}
+use Prim.Native.Nat.{_≤_}
 use Rattle.reduction.specs.Lowering.{candidateCount, planeBelow}
-use Rattle.reduction.proofs.LowerSteps.{cands-few, cands-room, too-many, count-is, first-room, cliques-answer, columns-room, product-is, number-few, below-is}
+use Rattle.reduction.proofs.LowerSteps.{cands-few, cands-room, too-many, first-room, cliques-answer, columns-room, product-is, number-few, below-is}
 use native.Mathlib.Omega.{arith}
 use borrow.Author.Needs.{needs}
 use Rattle.reduction.proofs.heights.lower.Statement.{statement}

@@ -3,7 +3,7 @@
 use mathlib.Core.Path.{_∙_, ap}
 use mathlib.Core.Bool.{false}
 use mathlib.Core.List.{List}
-use Prim.Native.Nat.{ℕ, _*_, _≤_}
+use Prim.Native.Nat.{_*_, _≤_}
 use lib.Seq.{sets}
 use Rattle.reduction.specs.Diagram.{Node, nodeWords}
 use Rattle.reduction.specs.Lowering.{candidateCount}

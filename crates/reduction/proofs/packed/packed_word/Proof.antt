@@ -1,7 +1,7 @@
 -- `reduction::packed::packed_word` meets its contract.
 -- Assumes nothing.
 use mathlib.Core.Path.{_≡_, refl, sym, _∙_, ap, ap₂}
-use Prim.Native.Nat.{ℕ, suc, _≤_, _-_, _+_, _*_, _%_, _^_}
+use Prim.Native.Nat.{ℕ, _≤_, _-_, _+_, _*_, _^_}
 use native.Mathlib.Numerals.{add-one}
 use lib.Bits.{bitOr}
 use lib.Pow.{shl-exact}

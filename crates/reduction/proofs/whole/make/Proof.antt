@@ -1,9 +1,9 @@
 -- `reduction::whole::make` meets its contract.
 -- Assumes nothing.
 use mathlib.Core.Path.{_≡_, refl, sym, _∙_}
-use Prim.Native.Nat.{ℕ, _-_, _+_, _<_, _≤_}
-use lib.ListN.{length, length-replicate}
-use Rattle.sheet.specs.Job.{Job, job}
+use Prim.Native.Nat.{ℕ, _-_, _+_, _≤_}
+use lib.ListN.{length-replicate}
+use Rattle.sheet.specs.Job.{job}
 use Rattle.sheet.specs.Refusals.{sheetRefusal}
 use Rattle.sheet.proofs.Good.{order-length}
 use Rattle.reduction.proofs.PassEnds.{read, start, refused-not, wide-not, answer-sheet, answer-7}
