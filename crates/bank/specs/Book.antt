@@ -8,8 +8,8 @@ use lib.Dec.{eqb, leb, ltb}
 use lib.ListN.{length, getD, set}
 use Rattle.laws.specs.Tests.{sum}
 use Rattle.laws.specs.Lists.{tab, joined}
-use Rattle.cutting.specs.Stored.{wellFormed, cellCount, cellAt, rowCount}
-use Rattle.cutting.specs.Run.{rowPlace, outputsAfter, railAfter, unset}
+use Rattle.stored.specs.Stored.{wellFormed, cellCount, cellAt, rowCount}
+use Rattle.stored.specs.Run.{rowPlace, outputsAfter, railAfter, unset}
 use Rattle.bank.specs.Calls.{accepted, idle, went, After, numbered}
 
 -- a block: its records and rows as handed in, its word, its rail word, and its outputs, 0 or 1 where set, else 2

@@ -6,8 +6,8 @@ use mathlib.Core.List.{List}
 use lib.Dec.{eqb, leb, ltb}
 use lib.ListN.{length, getD, set, take, drop}
 use Rattle.laws.specs.Lists.{tab, written}
-use Rattle.cutting.specs.Stored.{wellFormed, cellCount, cellAt, rowCount}
-use Rattle.cutting.specs.Run.{rowPlace, outputsAfter, railAfter}
+use Rattle.stored.specs.Stored.{wellFormed, cellCount, cellAt, rowCount}
+use Rattle.stored.specs.Run.{rowPlace, outputsAfter, railAfter}
 use Rattle.bank.specs.State.{State, Bank, Scan, recordsOf, cellsHeld, rowsBefore, rowsHeld, formed, atRest, cleared}
 pub use Rattle.bank.specs.declared.StepAnswer.{StepAnswer}
 use Rattle.bank.specs.declared.StepAnswer.the-variants.{Went, Idle, Refused}

@@ -13,7 +13,7 @@ use Rattle.sheet.specs.Table.{table}
 use Rattle.reduction.specs.declared.Node.{Node}
 use Rattle.reduction.specs.Columns.{width}
 use Rattle.reduction.specs.Merge.{reduced}
-use Rattle.cutting.specs.Stored.{cutByte, railByte, cellAt}
+use Rattle.stored.specs.Stored.{cutByte, railByte, cellAt}
 use Rattle.cutting.specs.Compile.{compile, Totals}
 use Rattle.cutting.specs.Compile as compiler
 use Rattle.bank.specs.State.{State, fresh}

@@ -6,7 +6,7 @@ use mathlib.Core.List.{List}
 use lib.Dec.{leb, ltb}
 use lib.ListN.{getD, take, drop, replicate}
 use Rattle.laws.specs.Tests.{every, sum, within}
-use Rattle.cutting.specs.Stored.{recordsFormed, cellCount, cellAt, rowCount}
+use Rattle.stored.specs.Stored.{recordsFormed, cellCount, cellAt, rowCount}
 pub use Rattle.bank.specs.declared.Bank.{Bank}
 pub use Rattle.bank.specs.declared.Scan.{Scan}
 

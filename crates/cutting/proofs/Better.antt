@@ -11,7 +11,7 @@ use lib.ListN.{length}
 use borrow.Author.Tests.{lt-ltb, le-ltb, eq-eqb, ne-eqb}
 use Rattle.laws.proofs.Cases.{by-test, by-less, by-equal, either, no-test}
 use Rattle.sheet.specs.Job.{Job}
-use Rattle.cutting.specs.Cells.{bitTotal}
+use Rattle.stored.specs.Cells.{bitTotal}
 use Rattle.cutting.specs.Cuts.{CutList, bottom, next, cellsOf}
 use Rattle.cutting.specs.Choice.{longer, admissible, better, isNone, best}
 

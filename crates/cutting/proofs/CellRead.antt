@@ -19,8 +19,8 @@ use Rattle.sheet.specs.Job.{Job, t, ins, outs, varAt, isInput, inputList, numbe
 use Rattle.sheet.specs.Refusals.{notEachOnce}
 use Rattle.sheet.proofs.Orders.{ins-rise, outs-rise}
 use Rattle.reduction.proofs.Children.{ins-input, ins-output, outs-input, outs-output}
-use Rattle.cutting.specs.Stored.{appended}
-use Rattle.cutting.specs.Run.{address, setOutputs}
+use Rattle.stored.specs.Stored.{appended}
+use Rattle.stored.specs.Run.{address, setOutputs}
 use Rattle.cutting.proofs.StoredCuts.{insFrom, outsFrom}
 use Rattle.cutting.proofs.OrderHeights.{input-bit, output-low, output-one}
 

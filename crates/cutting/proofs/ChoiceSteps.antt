@@ -7,7 +7,8 @@ use Prim.Native.Nat.{ℕ, zero, suc, _+_, _*_, _^_, _<_, _≤_}
 use native.Mathlib.Numerals.{add-one}
 use native.Mathlib.Omega.{arith}
 use borrow.Author.Tests.{lt-ltb, le-ltb, le-leb, lt-leb, eq-eqb, ne-eqb}
-use Rattle.cutting.specs.Cells.{Cell, fits, bits, rows}
+use Rattle.stored.specs.declared.Cell.{Cell}
+use Rattle.stored.specs.Cells.{fits, bits, rows}
 use Rattle.cutting.specs.Ways.{Way, fewer, through, goes, withCutAt, wayBelow, listCell, listWay, cutsFrom, bitsFrom}
 use Rattle.cutting.proofs.Ways.{way-next, way-bottom, way-small}
 

@@ -1,6 +1,6 @@
 -- Where 8 is not given, the chosen list is a cut list and admissible.
 -- Assumes nothing.
-use mathlib.Core.Path.{_≡_, sym, _∙_, ap}
+use mathlib.Core.Path.{_≡_, refl, sym, _∙_, ap}
 use mathlib.Core.Bool.{true, false, _&&_, _||_, true≢false}
 use mathlib.Core.List.{List, [], _∷_, _++_, map}
 use Prim.Native.Nat.{ℕ, zero, suc, _≤_}
@@ -65,3 +65,9 @@ module _ (j : Job) (ws : List ℕ) where
   pub chosen-admissible : refuse8 j ws ≡ false → admissible j ws (chosen j ws) ≡ true
   unfolding refuse8 chosen
   chosen-admissible e = best-is (CutList (t j)) (cutLists (t j)) (cuts-all (t j)) e .1
+
+-- a cut list is not the list that stands for none
+pub cuts-none : (j : Job) (ws : List ℕ) {h : ℕ} {l : List ℕ} → CutList h l → isNone j ws l ≡ false
+unfolding isNone
+cuts-none j ws bottom = refl
+cuts-none j ws (next p c) = refl

@@ -33,12 +33,13 @@ use Rattle.reduction.specs.Merge.{reduced}
 use Rattle.reduction.proofs.Ruled.{Ruled}
 use Rattle.reduction.proofs.Final.{width-top}
 use Rattle.reduction.proofs.Refined.{width-layer, reduced-refines, reduced-ruled}
-use Rattle.cutting.specs.Cells.{rows}
+use Rattle.stored.specs.Cells.{rows}
 use Rattle.cutting.specs.Cuts.{CutList, railsAt, cellInputs, cellBetween}
 use Rattle.cutting.specs.Compile.{widthsOf}
 use Rattle.cutting.specs.Rows.{rowOf, cascadeRows}
-use Rattle.cutting.specs.Stored.{StoredCell, stored, cellAt, rowsBefore}
-use Rattle.cutting.specs.Run.{address, rowPlace, setOutputs, outputsAfter, railAfter, unset, Running, ranOne, run}
+use Rattle.stored.specs.Stored.{StoredCell, cellAt, rowsBefore}
+use Rattle.cutting.specs.StoredForm.{stored}
+use Rattle.stored.specs.Run.{address, rowPlace, setOutputs, outputsAfter, railAfter, unset, Running, ranOne, run}
 use Rattle.cutting.proofs.StoredCuts.{outsFrom, storedBetween, cell-at, rows-at, cuts-fall, cuts-most, cuts-first, cuts-last, cuts-some}
 use Rattle.cutting.proofs.RailCounts.{rails-hold}
 use Rattle.cutting.proofs.OrderHeights.{output-number, output-listed, output-one, output-height}

@@ -13,9 +13,9 @@ use Rattle.reduction.specs.Opened.{reductionOpened}
 use Rattle.cutting.specs.Opened.{cuttingOpened}
 use Rattle.cutting.specs.Cuts.{cutLists, rails}
 use Rattle.cutting.specs.Choice.{chosen}
-use Rattle.cutting.specs.Stored.{wellFormed}
-use Rattle.cutting.specs.Run.{run}
-use Rattle.cutting.specs.ReadWrite.{read, notRead, cascadeOf, write}
+use Rattle.stored.specs.Stored.{wellFormed}
+use Rattle.stored.specs.Run.{run}
+use Rattle.stored.specs.ReadWrite.{read, notRead, cascadeOf, write}
 use Rattle.cutting.specs.Compile.{made}
 use Rattle.cutting.specs.Example.{recordsA, rowsA}
 

@@ -15,8 +15,8 @@ use Rattle.reduction.specs.Columns.{layers}
 use Rattle.reduction.specs.Merge.{reduced}
 use Rattle.cutting.specs.Cuts.{CutList, cellsOf}
 use Rattle.cutting.specs.Choice.{refuse8}
-use Rattle.cutting.specs.Stored.{cellCount, wellFormed}
-use Rattle.cutting.specs.Run.{run}
+use Rattle.stored.specs.Stored.{cellCount, wellFormed}
+use Rattle.stored.specs.Run.{run}
 use Rattle.cutting.specs.Compile.{widthsOf, made}
 use Rattle.cutting.proofs.StoredCuts.{cell-count}
 use Rattle.cutting.proofs.Emits.{Emitted, compiled-emits, compiled-all}

@@ -1,26 +1,24 @@
 -- The limit of 32,768 rows never decides: a cut list whose cells all fit has fewer rows.
 -- Assumes nothing.
 use mathlib.Core.Path.{_≡_, refl, sym, _∙_, ap}
-use mathlib.Core.Bool.{Bool, true, false, cond, not, _&&_}
-use mathlib.Core.List.{List, [], _∷_}
-use Prim.Native.Nat.{ℕ, zero, suc, _+_, _-_, _*_, _^_, _<_, _≤_}
+use mathlib.Core.Bool.{true, false}
+use mathlib.Core.List.{List, _∷_}
+use Prim.Native.Nat.{ℕ, suc, _+_, _-_, _*_, _^_, _<_, _≤_}
 use native.Mathlib.Nat.{pow-suc}
 use native.Mathlib.Numerals.{add-one}
 use native.Mathlib.Omega.{arith}
 use lib.Dec.{eqb, leb}
 use lib.ListN.{getD}
-use lib.Pow.{pow-pos, pow-mono}
+use lib.Pow.{pow-mono}
 use borrow.Author.Tests.{leb-true, le-leb, eq-eqb}
-use Rattle.laws.specs.Tests.{count}
 use Rattle.laws.proofs.Cases.{by-test, by-less, cond-yes, cond-both, and-split, and-join, and-left-no}
-use Rattle.laws.proofs.Find.{least-le, least-of}
 use Rattle.laws.proofs.Picked.{count-not}
 use Rattle.sheet.specs.Job.{Job, t, varAt, isInput, ins, outs}
 use Rattle.sheet.specs.Refusals.{notEachOnce}
 use Rattle.sheet.proofs.Orders.{ins-rise, outs-rise, outs-all}
 use Rattle.reduction.proofs.Children.{ins-below}
-use Rattle.cutting.specs.Cells.{fits, rows, allFit, rowTotal}
-use Rattle.cutting.specs.Cuts.{CutList, bottom, next, rails, railsAt, cellInputs, cellOutputs, cellBetween, cellsOf}
+use Rattle.stored.specs.Cells.{fits, rows, allFit, rowTotal}
+use Rattle.cutting.specs.Cuts.{CutList, bottom, next, railsAt, cellInputs, cellOutputs, cellBetween, cellsOf}
 use Rattle.cutting.specs.Choice.{admissible}
 use Rattle.cutting.proofs.RailCounts.{rails-least}
 

@@ -2,21 +2,19 @@
 -- at most 8 outputs is a byte.
 -- Assumes nothing.
 use mathlib.Core.Path.{_≡_, refl, sym, _∙_, ap, ap₂}
-use mathlib.Core.Bool.{Bool, false}
+use mathlib.Core.Bool.{false}
 use mathlib.Core.List.{List}
 use Prim.Native.Nat.{ℕ, zero, suc, _+_, _-_, _*_, _/_, _%_, _^_, _<_, _≤_}
-use native.Mathlib.Nat.{mod-lt, add-mul, zero-mul, mul-assoc, mul-comm}
+use native.Mathlib.Nat.{mod-lt}
 use native.Mathlib.Omega.{arith}
-use borrow.Author.Tests.{lt-ltb, le-ltb, leb-true, ne-eqb}
-use lib.Dec.{eqb, ltb, leb}
+use borrow.Author.Tests.{lt-ltb, le-ltb, ne-eqb}
+use lib.Dec.{eqb, ltb}
 use lib.ListN.{length, getD}
 use lib.Pow.{pow-pos, pow-add, pow-mono, high}
 use lib.Pow.{low as low-part}
 use lib.Arith.{digits-lt}
-use Rattle.laws.specs.Tests.{sum, least}
 use Rattle.laws.specs.Bits.{flag}
 use Rattle.laws.proofs.Cases.{by-less, cond-yes, cond-no}
-use Rattle.laws.proofs.Find.{least-hit}
 use Rattle.laws.proofs.Bits.{flag-lt}
 use Rattle.laws.proofs.Powers.{sum-small, sum-moved, place-below}
 use Rattle.sheet.specs.Job.{Job, t, ins, outs}

@@ -17,10 +17,11 @@ use Rattle.laws.proofs.Counts.{sum-ext}
 use Rattle.laws.proofs.Lists.{length-tab, getD-tab}
 use Rattle.sheet.specs.Job.{Job, t, ins, outs, varAt, isInput}
 use Rattle.reduction.proofs.Children.{ins-input, ins-output, outs-input, outs-output}
-use Rattle.cutting.specs.Cells.{cell, rows, rowTotal}
+use Rattle.stored.specs.Cells.{cell, rows, rowTotal}
 use Rattle.cutting.specs.Cuts.{CutList, bottom, next, railsAt, cellInputs, cellOutputs, cellBetween, cellsOf}
 use Rattle.cutting.specs.Rows.{row, cellRows, cascadeRows}
-use Rattle.cutting.specs.Stored.{StoredCell, Reading, member, storedTo, stored, recordCount, cutByte, railByte, appended, withVariable, withCut, reading, storedCells, cellCount, noCell, cellAt, sizeOf, rowsBefore, rowCount}
+use Rattle.stored.specs.Stored.{StoredCell, Reading, recordCount, cutByte, railByte, appended, withVariable, withCut, reading, storedCells, cellCount, noCell, cellAt, sizeOf, rowsBefore, rowCount}
+use Rattle.cutting.specs.StoredForm.{member, storedTo, stored}
 
 -- the four bytes of the record at height h + 1
 module _ (j : Job) (ws cuts : List ℕ) where
@@ -313,7 +314,7 @@ module _ (j : Job) (ws l : List ℕ) (c : CutList (t j) l) where
       sum-ext (λ i. rows (sizeOf (cellAt (stored j ws l) i))) (λ i. rows (cellBetween j ws (getD l i 0) (getD l (suc i) 0))) k
       (λ i p. ap rows (cell-size i (omega arith)))
 
-sum-front : (f : ℕ → ℕ) (n : ℕ) → sum (suc n) f ≡ f 0 + sum n (λ i. f (suc i))
+pub sum-front : (f : ℕ → ℕ) (n : ℕ) → sum (suc n) f ≡ f 0 + sum n (λ i. f (suc i))
 sum-front f zero = omega arith
 sum-front f (suc n) = let e = sum-front f n in omega arith
 

@@ -26,12 +26,14 @@ use Rattle.reduction.specs.Merge.{reduced}
 use Rattle.reduction.proofs.Numbers.{first-below}
 use Rattle.reduction.proofs.Final.{width-bottom}
 use Rattle.reduction.proofs.Refined.{width-layer}
-use Rattle.cutting.specs.Cells.{Cell, fits, rows, allFit, rowTotal}
+use Rattle.stored.specs.declared.Cell.{Cell}
+use Rattle.stored.specs.Cells.{fits, rows, allFit, rowTotal}
 use Rattle.cutting.specs.Cuts.{CutList, rails, railsAt, cellOutputs, cellBetween, cellsOf}
 use Rattle.cutting.specs.Choice.{admissible}
 use Rattle.cutting.specs.Compile.{widthsOf}
 use Rattle.cutting.specs.Rows.{row, cascadeRows}
-use Rattle.cutting.specs.Stored.{member, stored, recordCount, variable, cutByte, railByte, lastByte, cellCount, cellAt, sizeOf, rowsBefore, rowCount, recordFormed, cellFormed, recordsFormed, rowsFormed, wellFormed}
+use Rattle.stored.specs.Stored.{recordCount, variable, cutByte, railByte, lastByte, cellCount, cellAt, sizeOf, rowsBefore, rowCount, recordFormed, cellFormed, recordsFormed, rowsFormed, wellFormed}
+use Rattle.cutting.specs.StoredForm.{member, stored}
 use Rattle.cutting.proofs.StoredCuts.{stored-length, stored-variable, stored-cut, stored-rails, stored-last, record-count, member-bottom, cuts-fall, cuts-most, cell-count, cell-size, rows-at, rows-length, rows-total}
 use Rattle.cutting.proofs.RailCounts.{rails-least, rails-at, width-at, layer-at}
 use Rattle.cutting.proofs.OrderHeights.{input-low, output-low, output-byte, variable-one}
@@ -47,7 +49,7 @@ cut-or-none true r = refl
 cut-or-none false r = refl
 
 -- each of the cells of a list fits, and so it does within wider limits
-fit-at : (j : Job) (ws : List ℕ) (a b : ℕ) (l : List ℕ) (k : ℕ) → allFit a b (cellsOf j ws l) ≡ true → suc k < length l
+pub fit-at : (j : Job) (ws : List ℕ) (a b : ℕ) (l : List ℕ) (k : ℕ) → allFit a b (cellsOf j ws l) ≡ true → suc k < length l
     → fits a b (cellBetween j ws (getD l k 0) (getD l (suc k) 0)) ≡ true
 unfolding allFit cellsOf
 fit-at j ws a b [] k e h = absurd (not-suc-le-zero h)
@@ -56,13 +58,20 @@ fit-at j ws a b (x ∷ y ∷ l) zero e h = and-split (fits a b (cellBetween j ws
 fit-at j ws a b (x ∷ y ∷ l) (suc k) e h =
     fit-at j ws a b (y ∷ l) k (and-split (fits a b (cellBetween j ws x y)) (allFit a b (cellsOf j ws (y ∷ l))) e .1) (omega arith)
 
-fits-more : (a b a′ b′ : ℕ) (c : Cell) → a ≤ a′ → b ≤ b′ → fits a b c ≡ true → fits a′ b′ c ≡ true
+pub fits-more : (a b a′ b′ : ℕ) (c : Cell) → a ≤ a′ → b ≤ b′ → fits a b c ≡ true → fits a′ b′ c ≡ true
 unfolding fits
 fits-more a b a′ b′ c p q e =
     let both = and-split (leb (c .inputs) a) (leb (c .outputs) b) e in
     let i = leb-true (c .inputs) a (both .0) in
     let o = leb-true (c .outputs) b (both .1) in
     and-join (le-leb (c .inputs) a′ (omega arith)) (le-leb (c .outputs) b′ (omega arith))
+
+pub all-more : (a b a′ b′ : ℕ) → a ≤ a′ → b ≤ b′ → (cs : List Cell) → allFit a b cs ≡ true → allFit a′ b′ cs ≡ true
+unfolding allFit
+all-more a b a′ b′ p q [] e = refl
+all-more a b a′ b′ p q (c ∷ cs) e =
+    let (one, rest) = and-split (fits a b c) (allFit a b cs) e in
+    and-join (fits-more a b a′ b′ c p q one) (all-more a b a′ b′ p q cs rest)
 
 module _ (j : Job) (once : notEachOnce (j .n) (j .m) (j .order) ≡ false) (few : j .n ≤ 12) (out : j .m ≤ 8) (f l : List ℕ) (cuts : CutList (t j) l) where
   abbrev ls : List (List ℕ)
@@ -224,7 +233,7 @@ module _ (j : Job) (once : notEachOnce (j .n) (j .m) (j .order) ≡ false) (few 
           and-join (and-join records-good (eq-eqb (length bytes) (rowCount R) (rows-length j f ls ws l cuts)))
           (every-of (rowsFormed R bytes) (cellCount R) cell-rows-good)
 
--- what an accepted job keeps to
+-- what a job with numbers in range keeps to, and an accepted one
 in-limits : (n m k l : ℕ) → outOfRange n m k l ≡ false → (1 ≤ n) × (k ≤ 12) × (l ≤ 8)
 unfolding outOfRange
 in-limits n m k l e =
@@ -237,6 +246,12 @@ in-limits n m k l e =
       leb-true l 8 (and-split (leb 1 l) (leb l 8) (three .1) .1),
     )
 
+pub job-limits : (j : Job) (s : List ℕ) → sheetRefusal j s ≡ 0 → (1 ≤ j .n) × (j .K ≤ 12) × (j .L ≤ 8)
+job-limits j s e =
+    by-test (outOfRange (j .n) (j .m) (j .K) (j .L))
+    (λ p. let z : _≡_ {A = ℕ} 0 1 = sym e ∙ given1 (j .n) (j .m) (j .K) (j .L) (j .order) s p in absurd (omega arith))
+    (λ p. in-limits (j .n) (j .m) (j .K) (j .L) p)
+
 -- the stored form of an accepted sheet's reduced function
 pub compiled-formed : (j : Job) (s : List ℕ) → sheetRefusal j s ≡ 0 → (l : List ℕ) → CutList (t j) l
     → admissible j (widthsOf (layers j (reduced j (table j s)))) l ≡ true
@@ -245,8 +260,5 @@ pub compiled-formed : (j : Job) (s : List ℕ) → sheetRefusal j s ≡ 0 → (l
     ≡ true
 compiled-formed j s e l cuts fit =
     let c : Readable (j .n) (j .m) (j .order) s = readable (j .n) (j .m) (j .K) (j .L) (j .order) s e in
-    by-test (outOfRange (j .n) (j .m) (j .K) (j .L))
-    (λ p. let z : _≡_ {A = ℕ} 0 1 = sym e ∙ given1 (j .n) (j .m) (j .K) (j .L) (j .order) s p in absurd (omega arith))
-    (λ p.
-    let (some, k≤, l≤) = in-limits (j .n) (j .m) (j .K) (j .L) p in
-    well-formed j (c .order-whole) (c .inputs) (c .outputs) (reduced j (table j s)) l cuts (omega arith) k≤ l≤ fit)
+    let (some, k≤, l≤) = job-limits j s e in
+    well-formed j (c .order-whole) (c .inputs) (c .outputs) (reduced j (table j s)) l cuts (omega arith) k≤ l≤ fit

@@ -14,7 +14,8 @@ use lib.Seq.{getD-at}
 use lib.Pow.{pow-mono}
 use borrow.Author.Tests.{leb-true, ltb-true, ltb-false, le-ltb, ne-eqb}
 use Rattle.laws.proofs.Cases.{by-test, by-less, either, last-or-below, and-split}
-use Rattle.cutting.specs.Cells.{Cell, fits, bits, rows}
+use Rattle.stored.specs.declared.Cell.{Cell}
+use Rattle.stored.specs.Cells.{fits, bits, rows}
 use Rattle.cutting.specs.Ways.{Way, noWay, bottomWay, fewer, through, goes, withCutAt, wayBelow, ways, wayFrom}
 use Rattle.cutting.proofs.Better.{first, first-same, first-more, first-yes, first-no}
 

@@ -12,13 +12,14 @@ use borrow.Author.Tests.{ltb-true, ltb-false, lt-ltb, ne-eqb}
 use Rattle.laws.proofs.Cases.{by-less, either, and-split, and-join, no-test}
 use Rattle.sheet.specs.Job.{Job, t, ins, outs}
 use Rattle.sheet.specs.Refusals.{notEachOnce}
-use Rattle.cutting.specs.Cells.{fits, bits, allFit, bitTotal}
+use Rattle.stored.specs.Cells.{fits, bits, allFit, bitTotal}
 use Rattle.cutting.specs.Cuts.{CutList, bottom, next, cutLists, railsAt, cellInputs, cellOutputs, cellBetween, cellsOf}
 use Rattle.cutting.specs.Choice.{longer, admissible, better, isNone, best, chosen, refuse8}
 use Rattle.cutting.specs.Ways.{Way, noWay, through, goes, falling, jobWay, listCell, listWay}
 use Rattle.cutting.proofs.RowLimit.{cells-next, ins-outs, admissible-fits}
 use Rattle.cutting.proofs.CutLists.{member-of, of-falls}
 use Rattle.cutting.proofs.Better.{first, first-less, first-same, first-more, first-no, cellsIn, bitsIn, better-is, better-itself, better-total, longer-next, best-of}
+use Rattle.cutting.proofs.ChosenCuts.{cuts-none}
 use Rattle.cutting.proofs.Ways.{way-bottom, way-least, way-same, way-cuts, way-falls, Blocked, Least}
 
 -- k not before f, and f not before g, in cells, bits and next cuts: then k not before g; q and p are the bits of the first cells
@@ -207,12 +208,7 @@ module _ (j : Job) (ws : List ℕ) (once : notEachOnce (j .n) (j .m) (j .order) 
   led = falling (λ h. jobWay j ws h .next) (t j) (t j)
 
   some-list : (l : List ℕ) → List·Memᴰ l (cutLists (t j)) → isNone j ws l ≡ false
-  unfolding isNone
-  some-list l m = falls-some (of-falls (t j) l m)
-    where
-      falls-some : {h : ℕ} {k : List ℕ} → CutList h k → isNone j ws k ≡ false
-      falls-some bottom = refl
-      falls-some (next p c) = refl
+  some-list l m = cuts-none j ws (of-falls (t j) l m)
 
   admitted : (l : List ℕ) → CutList (t j) l → admissible j ws l ≡ allIn j ws l
   admitted = admissible-fits j ws once few out small narrow
@@ -286,7 +282,7 @@ module _ (j : Job) (ws : List ℕ) (once : notEachOnce (j .n) (j .m) (j .order) 
 -- the ways of a job by its rails and inputs at the heights 0 to t
 module _ (j : Job) (ws rs is : List ℕ) (rails-are : (h : ℕ) → h ≤ t j → getD rs h 0 ≡ railsAt j ws h)
     (inputs-are : (h : ℕ) → h ≤ t j → getD is h 0 ≡ ins j h) where
-  cell-same : (h g : ℕ) → h ≤ t j → g < h → listCell rs is h g ≡ cellBetween j ws h g
+  pub cell-same : (h g : ℕ) → h ≤ t j → g < h → listCell rs is h g ≡ cellBetween j ws h g
   unfolding listCell cellBetween cellInputs cellOutputs
   cell-same h g p q =
       let l : g ≤ t j = omega arith in

@@ -6,7 +6,7 @@ use mathlib.Core.List.{List, [], _∷_}
 use lib.Dec.{eqb, leb, ltb}
 use lib.ListN.{length}
 use Rattle.sheet.specs.Job.{Job, t}
-use Rattle.cutting.specs.Cells.{allFit, rowTotal, bitTotal}
+use Rattle.stored.specs.Cells.{allFit, rowTotal, bitTotal}
 use Rattle.cutting.specs.Cuts.{cutLists, cellsOf}
 
 -- the list l has a longer first cell than k; or as long a one, and a longer second; and so on

@@ -11,13 +11,13 @@ use Rattle.sheet.specs.Refusals.{sheetRefusal}
 use Rattle.sheet.specs.Table.{table}
 use Rattle.reduction.specs.Columns.{layers}
 use Rattle.reduction.specs.Merge.{reduced, refuse7}
-use Rattle.reduction.specs.Diagram.{nodes}
+use Rattle.reduction.specs.Diagram.{nodes, nodeWords}
 use Rattle.reduction.specs.declared.Node.{Node}
-use Rattle.cutting.specs.Cells.{bitTotal}
+use Rattle.stored.specs.Cells.{bitTotal}
 use Rattle.cutting.specs.Cuts.{cellsOf}
 use Rattle.cutting.specs.Choice.{chosen, refuse8}
 use Rattle.cutting.specs.Rows.{cascadeRows}
-use Rattle.cutting.specs.Stored.{stored}
+use Rattle.cutting.specs.StoredForm.{stored}
 
 -- what is made of a sheet's function
 pub record Made : Type 0 where
@@ -65,44 +65,56 @@ unfoldable pub totals : Job → Made → Totals
 totals j c =
     record { nodes = length (c .nodes); cells = c .cells; rows = length (c .rows); bits = c .bits; widths = take (t j) (c .widths) }
 
--- the answer, and what is lent after
-pub record Compiled : Type 0 where
+-- the answer, and what is lent after. The node memory holds elements of A: node records, or their words
+pub record CompiledAs (A : Type 0) : Type 0 where
   pub answer : Answer
-  pub nodes : List Node
+  pub nodes : List A
   pub records : List ℕ
   pub rows : List ℕ
 
-module _ (nodes : List Node) (records rows : List ℕ) where
+-- held gives the nodes in the elements of the node memory
+module _ {A : Type 0} (held : List Node → List A) (nodes : List A) (records rows : List ℕ) where
   -- nothing lent changes on a refusal
-  unfoldable pub refusal : ℕ → Compiled
+  unfoldable pub refusal : ℕ → CompiledAs A
   refusal n = record { answer = refused n; nodes = nodes; records = records; rows = rows }
 
   -- memory past the written part is kept
-  unfoldable pub acceptance : Job → Made → Compiled
+  unfoldable pub acceptance : Job → Made → CompiledAs A
   acceptance j c =
       record {
         answer = accepted (totals j c);
-        nodes = written nodes 0 (c .nodes);
+        nodes = written nodes 0 (held (c .nodes));
         records = written records 0 (c .records);
         rows = written rows 0 (c .rows);
       }
 
   -- 9: node table shorter than the nodes. 10: record buffer under 4 x t. 11: row memory short
-  unfoldable pub lend : Job → Made → Compiled
+  unfoldable pub lend : Job → Made → CompiledAs A
   lend j c =
-      cond (ltb (length nodes) (length (c .nodes))) (refusal 9)
+      cond (ltb (length nodes) (length (held (c .nodes)))) (refusal 9)
       (cond (ltb (length records) (4 * t j)) (refusal 10)
       (cond (ltb (length rows) (length (c .rows))) (refusal 11) (acceptance j c)))
 
   -- f is the sheet's function: 7, 8, then what is lent
-  unfoldable pub reduce : Job → List ℕ → Compiled
+  unfoldable pub reduce : Job → List ℕ → CompiledAs A
   reduce j f =
       let c = made j f in
       let r = cond (refuse8 j (c .widths)) (refusal 8) (lend j c) in
       cond (refuse7 j f) (refusal 7) r
 
-  unfoldable pub compile : Job → List ℕ → Compiled
-  compile j s =
+  unfoldable pub compileAs : Job → List ℕ → CompiledAs A
+  compileAs j s =
       let n = sheetRefusal j s in
       let r = reduce j (table j s) in
       cond (eqb n 0) r (refusal n)
+
+-- a node table of node records
+abbrev pub Compiled : Type 0
+Compiled = CompiledAs Node
+
+unfoldable pub compile : List Node → List ℕ → List ℕ → Job → List ℕ → Compiled
+compile = compileAs (λ xs. xs)
+
+-- a node table of words, three a node
+unfoldable pub compileWords : List ℕ → List ℕ → List ℕ → Job → List ℕ → CompiledAs ℕ
+compileWords = compileAs nodeWords

@@ -7,7 +7,8 @@ use lib.Dec.{eqb, leb}
 use lib.ListN.{getD}
 use Rattle.laws.specs.Tests.{least}
 use Rattle.sheet.specs.Job.{Job, t, ins, outs}
-use Rattle.cutting.specs.Cells.{Cell, cell}
+use Rattle.stored.specs.declared.Cell.{Cell}
+use Rattle.stored.specs.Cells.{cell}
 
 -- a falling list of heights from h to 0
 pub data CutList : ℕ → List ℕ → Type 0 where

@@ -4,7 +4,7 @@ use Prim.Native.Nat.{ℕ, zero, suc}
 use mathlib.Core.List.{List, [], _∷_, _++_}
 use lib.ListN.{getD, take, drop}
 use Rattle.sheet.specs.Job.{Job, t}
-use Rattle.cutting.specs.Cells.{rows}
+use Rattle.stored.specs.Cells.{rows}
 use Rattle.cutting.specs.Cuts.{rails, cellBetween}
 use Rattle.cutting.specs.Compile.{Made}
 

@@ -6,7 +6,8 @@ use mathlib.Core.List.{List, [], _∷_, _++_}
 use lib.Dec.{eqb, ltb}
 use lib.ListN.{getD}
 use Rattle.sheet.specs.Job.{Job}
-use Rattle.cutting.specs.Cells.{Cell, cell, fits, bits}
+use Rattle.stored.specs.declared.Cell.{Cell}
+use Rattle.stored.specs.Cells.{cell, fits, bits}
 use Rattle.cutting.specs.Cuts.{cellBetween}
 pub use Rattle.cutting.specs.declared.choice.Way.{Way}
 

@@ -5,7 +5,11 @@ ghost use Prim.Native.Nat.{ℕ, _≤_, _<_, _+_, _-_, _*_, _^_};
 ghost use lib.ListN.{getD};
 ghost use Rattle.laws.specs.Lists.{puts};
 ghost use Rattle.cutting.specs.Ways.{fewer, withCutAt, listCell, listWay, cutsFrom, bitsFrom, nextFrom};
-use crate::Cell;
+use crate::casts::less;
+use crate::casts::narrow;
+use crate::casts::power;
+use crate::casts::wide;
+use stored::Cell;
 
 // The best way from a height: its number of cuts, the bits of its cells, and the next cut below. No cuts: there is no way.
 pub struct Way {
@@ -20,29 +24,6 @@ pub struct Chosen {
     pub bits: u32,
 }
 
-fn wide(x: u8) -> usize
-    ensures { λ r. ⌜ (r ≡ x) × (r < 256) ⌝ }
-{
-    x as usize
-}
-
-fn narrow(x: usize) -> u8
-    requires { ⌜ x ≤ 20 ⌝ }
-    ensures { λ r. ⌜ r ≡ x ⌝ }
-{
-    x as u8
-}
-
-// a - b, or 0 where b is more.
-fn less(a: usize, b: usize) -> usize
-    ensures { λ r. ⌜ (r ≡ a - b) × (r ≤ a) ⌝ }
-{
-    if a < b {
-        return 0;
-    }
-    a - b
-}
-
 fn one_less(a: u8) -> u8
     ensures { λ r. ⌜ r ≡ a - 1 ⌝ }
 {
@@ -50,13 +31,6 @@ fn one_less(a: u8) -> u8
         return 0;
     }
     a - 1
-}
-
-fn power(n: usize) -> usize
-    requires { ⌜ n ≤ 12 ⌝ }
-    ensures { λ r. ⌜ (r ≡ 2 ^ n) × (r ≤ 4096) ⌝ }
-{
-    1 << n
 }
 
 // The bits of a cell.
@@ -68,7 +42,7 @@ fn bits_of(i: usize, o: usize) -> u32
 }
 
 // The cell between the cuts a and b.
-fn cell_at(rails: &[u8; 21], inputs: &[u8; 21], a: usize, b: usize) -> Cell
+pub fn cell_at(rails: &[u8; 21], inputs: &[u8; 21], a: usize, b: usize) -> Cell
     requires { ⌜ (a ≤ 20) × (b ≤ 20) ⌝ }
     ensures { λ r. ⌜ r ≡ listCell (now (rails .entry)) (now (inputs .entry)) a b ⌝ }
 {

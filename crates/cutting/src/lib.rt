@@ -1,56 +1,53 @@
-// The cutting layer: cells, the chosen cut list, rows, the stored form and the whole compiler. So far its definitions (specs/), cells, the
-// ways from each height, the rows of a cell, and the test of stored cascades.
+// The cutting layer: the chosen cut list, rows, the stored form and the whole compiler.
+mod casts;
 mod cell_rows;
+mod cells;
 mod choice;
-mod formed;
+mod plan;
+mod records;
+mod whole;
 
 ghost use mathlib.Core.Path.{_≡_};
-ghost use Rattle.cutting.specs.Cells.{fits, usableRows, usableBits};
-ghost use Rattle.cutting.specs.Stored.{wellFormed};
+ghost use Rattle.sheet.specs.Job.{job};
+ghost use Rattle.cutting.specs.Cuts.{rails};
+ghost use Rattle.cutting.specs.Outcome.{outcomeOf, outcome};
+use crate::casts::narrow;
+use crate::casts::wide16;
+use crate::plan::rails_of;
 
-// A cell of a cascade by the number of its inputs and of its outputs, rails counted.
-pub struct Cell {
-    pub inputs: usize,
-    pub outputs: usize,
+// What the compiler answers: a refusal, 1 to 11, or 0 and the totals. widths[h] is the width at height h, for 0 to t - 1, and 0 above.
+pub struct Compilation {
+    pub refusal: u8,
+    pub nodes: u16,
+    pub cells: u8,
+    pub rows: u16,
+    pub bits: u32,
+    pub widths: [u16; 20],
 }
 
-impl Cell {
-    // The largest cell.
-    pub const MAX_INPUTS: usize = 12;
-
-    pub const MAX_OUTPUTS: usize = 8;
-
-    // It has at most so many inputs and outputs.
-    pub fn fits(self, inputs: usize, outputs: usize) -> bool
-        ensures { λ r. ⌜ r ≡ fits inputs outputs self ⌝ }
-    {
-        (self.inputs <= inputs) & (self.outputs <= outputs)
-    }
-
-    // 2^inputs; 0 for a cell larger than the largest.
-    pub fn rows(self) -> usize
-        ensures { λ r. ⌜ r ≡ usableRows self ⌝ }
-    {
-        if self.fits(Cell::MAX_INPUTS, Cell::MAX_OUTPUTS) {
-            return 1 << self.inputs;
-        }
-        0
-    }
-
-    // 2^inputs x outputs; 0 for a cell larger than the largest.
-    pub fn bits(self) -> usize
-        ensures { λ r. ⌜ r ≡ usableBits self ⌝ }
-    {
-        if self.fits(Cell::MAX_INPUTS, Cell::MAX_OUTPUTS) {
-            return (1 << self.inputs) * self.outputs;
-        }
-        0
-    }
-}
-
-// The records and rows of a stored cascade are well formed.
-pub fn well_formed(records: &[u8], rows: &[u8]) -> bool
-    ensures { λ r. ⌜ r ≡ wellFormed (now (records .entry)) (now (rows .entry)) ⌝ }
+// The compiler: the cascade of a job and its sheet. Where nothing is refused nodes holds three words a node (height, child for 0, child for 1),
+// records the stored records and rows the row tables, each kept past its written part; on a refusal all three are as they were.
+pub fn compile(
+    n: usize,
+    m: usize,
+    k: usize,
+    l: usize,
+    order: &[u8],
+    sheet: &[u8],
+    nodes: &mut [u16],
+    records: &mut [u8],
+    rows: &mut [u8],
+) -> Compilation
+    ensures { λ r.
+        ⌜ outcomeOf r (now (nodes .exit)) (now (records .exit)) (now (rows .exit))
+        ≡ outcome (now (nodes .entry)) (now (records .entry)) (now (rows .entry)) (job n m k l (now (order .entry))) (now (sheet .entry)) ⌝ }
 {
-    formed::formed(records, rows)
+    whole::make(n, m, k, l, order, sheet, nodes, records, rows)
+}
+
+// The rails at a cut of this width: the least r with 2^r at least w.
+pub fn rails(w: u16) -> u8
+    ensures { λ r. ⌜ r ≡ rails w ⌝ }
+{
+    narrow(rails_of(wide16(w)))
 }

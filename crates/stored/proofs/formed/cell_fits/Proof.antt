@@ -1,0 +1,14 @@
+-- `cell_fits` tests the cell that a cut ends.
+-- Assumes nothing.
+use borrow.Author.Tests.{eq-eqb, ne-eqb}
+use Rattle.stored.proofs.formed.cell_fits.Statement.{statement}
+use Rattle.stored.proofs.formed.cell_fits.Tie as tie
+
+returns : tie.Need-returns
+returns c = rw (eq-eqb _ _ (c .if1 .taken))
+
+returns-2 : tie.Need-returns-2
+returns-2 c = rw (ne-eqb _ _ (c .if1 .left))
+
+pub cell-fits-spec : {M : Type 1} → statement M
+cell-fits-spec = tie.close (tie.spec returns returns-2)

@@ -1,0 +1,102 @@
+// Stored cascades: cells, the test of records and rows, where cells lie, reading and writing.
+mod casts;
+mod formed;
+mod places;
+mod read_write;
+
+ghost use mathlib.Core.Path.{_≡_};
+ghost use Rattle.stored.specs.Cells.{fits, usableRows, usableBits};
+ghost use Rattle.stored.specs.Stored.{wellFormed};
+ghost use Rattle.stored.specs.Places.{cellPlace};
+ghost use Rattle.stored.specs.ReadWrite.{cascadeFrom, readAs, read, writtenAs, write};
+
+// A cell of a cascade by the number of its inputs and of its outputs, rails counted.
+pub struct Cell {
+    pub inputs: usize,
+    pub outputs: usize,
+}
+
+impl Cell {
+    // The largest cell.
+    pub const MAX_INPUTS: usize = 12;
+
+    pub const MAX_OUTPUTS: usize = 8;
+
+    // It has at most so many inputs and outputs.
+    pub fn fits(self, inputs: usize, outputs: usize) -> bool
+        ensures { λ r. ⌜ r ≡ fits inputs outputs self ⌝ }
+    {
+        (self.inputs <= inputs) & (self.outputs <= outputs)
+    }
+
+    // 2^inputs; 0 for a cell larger than the largest.
+    pub fn rows(self) -> usize
+        ensures { λ r. ⌜ r ≡ usableRows self ⌝ }
+    {
+        if self.fits(Cell::MAX_INPUTS, Cell::MAX_OUTPUTS) {
+            return 1 << self.inputs;
+        }
+        0
+    }
+
+    // 2^inputs x outputs; 0 for a cell larger than the largest.
+    pub fn bits(self) -> usize
+        ensures { λ r. ⌜ r ≡ usableBits self ⌝ }
+    {
+        if self.fits(Cell::MAX_INPUTS, Cell::MAX_OUTPUTS) {
+            return (1 << self.inputs) * self.outputs;
+        }
+        0
+    }
+}
+
+// The records of a cascade, top first: of each its variable, whether a cut lies directly below, and the rails there.
+pub struct StoredRecords {
+    pub count: u8,
+    pub variables: [u8; 20],
+    pub cuts: [bool; 20],
+    pub rails: [u8; 20],
+}
+
+// What reading answers: 12, or 0 and the records.
+pub struct ReadRecords {
+    pub refusal: u8,
+    pub records: StoredRecords,
+}
+
+// Where a cell of a stored cascade lies: the heights of its upper and its lower cut, and where its rows begin and end.
+pub struct CellPlace {
+    pub top: usize,
+    pub bottom: usize,
+    pub at: usize,
+    pub end: usize,
+}
+
+// The records and rows of a stored cascade are well formed.
+pub fn well_formed(records: &[u8], rows: &[u8]) -> bool
+    ensures { λ r. ⌜ r ≡ wellFormed (now (records .entry)) (now (rows .entry)) ⌝ }
+{
+    formed::formed(records, rows)
+}
+
+// Reads a stored cascade: its records, where both are well formed; its rows are the row bytes as they stand.
+pub fn read(records: &[u8], rows: &[u8]) -> ReadRecords
+    ensures { λ r. ⌜ r ≡ readAs (read (now (records .entry)) (now (rows .entry))) ⌝ }
+{
+    read_write::read_records(records, rows)
+}
+
+// Writes the cascade of these records and row bytes: 12, 10 or 11 and nothing is changed, or 0 and both memories hold it at their front.
+pub fn write(from: StoredRecords, bytes: &[u8], records: &mut [u8], rows: &mut [u8]) -> u8
+    ensures { λ r. ⌜ writtenAs r (now (records .exit)) (now (rows .exit))
+        ≡ write (cascadeFrom from (now (bytes .entry))) (now (records .entry)) (now (rows .entry)) ⌝ }
+{
+    read_write::write_records(from, bytes, records, rows)
+}
+
+// The place of cell k of these records; zeros where they are not well formed or have no such cell.
+pub fn cell_place(records: &[u8], k: usize) -> CellPlace
+    ensures { λ r. ⌜ r ≡ cellPlace (now (records .entry)) k ⌝ }
+{
+    places::place_of(records, k)
+}
