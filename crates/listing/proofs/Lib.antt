@@ -1,0 +1,3 @@
+-- The listing's laws.
+pub mod InputParts
+pub mod LongInput

@@ -1,0 +1,104 @@
+-- Input of more than 4,096 bytes: the first 4,096 decide what the compiler gives.
+-- Assumes nothing.
+use mathlib.Core.Path.{_≡_, sym, _∙_, ap, ap₂}
+use mathlib.Core.Bool.{true, cond, not, _||_, or-true}
+use mathlib.Core.List.{List}
+use Prim.Native.Nat.{ℕ, _+_, _%_, _<_, _≤_}
+use native.Mathlib.Omega.{arith}
+use borrow.Author.Tests.{ne-eqb, lt-ltb}
+use lib.Dec.{eqb}
+use lib.ListN.{length, getD, take, drop, take-append-drop, length-drop}
+use lib.Seq.{length-take-le, take-all, take-append-le, drop-append-le, getD-take}
+use Rattle.laws.proofs.Cases.{by-less, cond-yes, cond-no, cond-both}
+use Rattle.sheet.specs.Job.{Job}
+use Rattle.sheet.specs.Refusals.{refuse1, refuse2, refuse3, sheetRefusal}
+use Rattle.reduction.specs.Reduction.{reductionRefusal}
+use Rattle.cutting.specs.Compile.{refused}
+use Rattle.cutting.specs.Outcome.{answered, outcomeOf, outcome}
+use Rattle.cutting.proofs.Outcomes.{outcome-early}
+use Rattle.listing.specs.Split.{number, variables, orderOf, sheetOf, jobOf}
+
+-- a sheet of more than 2,048 bytes is refused, whatever it holds
+module _ (j : Job) where
+  abbrev refusal : ℕ
+  refusal = cond (refuse1 j) 1 (cond (refuse2 j) 2 3)
+
+  some : refusal ≡ 0 → ⊥
+  some =
+      let Some : ℕ → Type 0 = λ n. n ≡ 0 → ⊥ in
+      cond-both Some (refuse1 j) (λ z. absurd (omega arith)) (cond-both Some (refuse2 j) (λ z. absurd (omega arith)) (λ z. absurd (omega arith)))
+
+  too-long : (s : List ℕ) → 2048 < length s → refuse3 s ≡ true
+  unfolding refuse3
+  too-long s h = ap (λ b. not (eqb (length s % 8) 0) || b) (lt-ltb 2048 (length s) h) ∙ or-true (not (eqb (length s % 8) 0))
+
+  by-sheet : (s : List ℕ) → 2048 < length s → sheetRefusal j s ≡ refusal
+  unfolding sheetRefusal
+  by-sheet s h = ap (λ (n : ℕ). cond (refuse1 j) 1 (cond (refuse2 j) 2 n)) (cond-yes (refuse3 s) 3 _ (too-long s h))
+
+  refused-so : (s : List ℕ) → 2048 < length s → reductionRefusal j s ≡ refusal
+  unfolding reductionRefusal
+  refused-so s h =
+      cond-no (eqb (sheetRefusal j s) 0) _ (sheetRefusal j s) (ne-eqb (sheetRefusal j s) 0 (λ z. some (sym (by-sheet s h) ∙ z))) ∙ by-sheet s h
+
+  long-sheet : (nodes records rows s : List ℕ) → 2048 < length s
+      → outcomeOf (answered (refused refusal)) nodes records rows ≡ outcome nodes records rows j s
+  long-sheet nodes records rows s h =
+      ap (λ (n : ℕ). outcomeOf (answered (refused n)) nodes records rows) (sym (refused-so s h))
+      ∙ outcome-early nodes records rows j s (λ z. some (sym (refused-so s h) ∙ z))
+
+-- a part that ends in the first n elements is a part of them
+part-within : (a k n : ℕ) (l : List ℕ) → a + k ≤ n → n ≤ length l → take k (drop a (take n l)) ≡ take k (drop a l)
+part-within a k n l h long =
+    let all = length-take-le n l long in
+    sym
+    (ap (λ (x : List ℕ). take k (drop a x)) (sym (take-append-drop n l))
+    ∙ ap (take k) (drop-append-le a (take n l) (drop n l) (omega arith))
+    ∙ take-append-le k (drop a (take n l)) (drop n l) (omega (arith, length-drop a (take n l))))
+
+module _ (input : List ℕ) (bytes : (i : ℕ) → getD input i 0 < 256) (long : 4096 < length input) where
+  abbrev first : List ℕ
+  first = take 4096 input
+
+  number-kept : (i : ℕ) → i < 4 → number first i ≡ number input i
+  number-kept i h = getD-take 4096 input i 0 (omega arith)
+
+  few : variables input ≤ 510
+  few = omega (arith, bytes 0, bytes 1)
+
+  variables-kept : variables first ≡ variables input
+  variables-kept = ap₂ _+_ (number-kept 0 (omega arith)) (number-kept 1 (omega arith))
+
+  order-kept : orderOf first ≡ orderOf input
+  unfolding orderOf
+  order-kept =
+      ap (λ (k : ℕ). take k (drop 4 first)) variables-kept ∙ part-within 4 (variables input) 4096 input (omega (arith, few)) (omega arith)
+
+  job-kept : jobOf first ≡ jobOf input
+  job-kept =
+      rw (
+        number-kept 0 (omega arith),
+        number-kept 1 (omega arith),
+        number-kept 2 (omega arith),
+        number-kept 3 (omega arith),
+        order-kept,
+      )
+
+  sheet-long : 2048 < length (sheetOf input)
+  unfolding sheetOf
+  sheet-long = omega (arith, few, length-drop (4 + variables input) input)
+
+  first-long : 2048 < length (sheetOf first)
+  unfolding sheetOf
+  first-long =
+      omega (arith, few, variables-kept, length-take-le 4096 input (omega arith), length-drop (4 + variables first) first)
+
+pub long-input : (nodes records rows input : List ℕ) → ((i : ℕ) → getD input i 0 < 256)
+    → outcome nodes records rows (jobOf (take 4096 input)) (sheetOf (take 4096 input)) ≡ outcome nodes records rows (jobOf input) (sheetOf input)
+long-input nodes records rows input bytes =
+    by-less 4096 (length input)
+    (λ long.
+    ap (λ (j : Job). outcome nodes records rows j (sheetOf (take 4096 input))) (job-kept input bytes long)
+    ∙ sym (long-sheet (jobOf input) nodes records rows (sheetOf (take 4096 input)) (first-long input bytes long))
+    ∙ long-sheet (jobOf input) nodes records rows (sheetOf input) (sheet-long input bytes long))
+    (λ h. ap (λ (x : List ℕ). outcome nodes records rows (jobOf x) (sheetOf x)) (take-all 4096 input h))

@@ -1,0 +1,2 @@
+-- The listing's definitions.
+pub mod Split

@@ -1,0 +1,180 @@
+// The listing: a job out of input bytes, and what program `cascade_list` prints of it.
+ghost use mathlib.Core.Path.{_≡_};
+ghost use Prim.Native.Nat.{_≤_, _<_, min};
+ghost use lib.ListN.{length};
+ghost use Rattle.cutting.specs.Outcome.{outcomeOf, outcome};
+ghost use Rattle.listing.specs.Split.{number, jobOf, sheetOf};
+use cutting::Compilation;
+use libc::STDOUT_FILENO;
+
+// Byte i of the input, 0 where it has ended.
+fn number(input: &[u8], i: usize) -> usize
+    ensures { λ r. ⌜ (r ≡ number (now (input .entry)) i) × (r < 256) ⌝ }
+{
+    if i < input.len() {
+        return wide(input[i]);
+    }
+    0
+}
+
+fn wide(x: u8) -> usize
+    ensures { λ r. ⌜ (r ≡ x) × (r < 256) ⌝ }
+{
+    x as usize
+}
+
+fn least(a: usize, b: usize) -> usize
+    ensures { λ r. ⌜ (r ≡ min a b) × (r ≤ a) × (r ≤ b) ⌝ }
+{
+    if a < b {
+        return a;
+    }
+    b
+}
+
+// The compiler on the job and the sheet of the input.
+pub fn compile_input(
+    input: &[u8],
+    nodes: &mut [u16],
+    records: &mut [u8],
+    rows: &mut [u8],
+) -> Compilation
+    ensures { λ r.
+        ⌜ outcomeOf r (now (nodes .exit)) (now (records .exit)) (now (rows .exit))
+        ≡ outcome (now (nodes .entry)) (now (records .entry)) (now (rows .entry)) (jobOf (now (input .entry))) (sheetOf (now (input .entry))) ⌝ }
+{
+    let n = number(input, 0);
+    let m = number(input, 1);
+    let k = number(input, 2);
+    let l = number(input, 3);
+    let from = least(4, input.len());
+    let to = least(4 + n + m, input.len());
+    cutting::compile(
+        n,
+        m,
+        k,
+        l,
+        &input[from..to],
+        &input[to..],
+        nodes,
+        records,
+        rows,
+    )
+}
+
+fn print(x: usize) {
+    io::print_decimal(STDOUT_FILENO, x as u64);
+}
+
+// A space, then the number.
+fn print_next(x: usize) {
+    io::write_all(STDOUT_FILENO, b" ");
+    print(x);
+}
+
+fn end_line() {
+    io::write_all(STDOUT_FILENO, b"\n");
+}
+
+// "height width rails".
+fn print_height(h: usize, width: u16) {
+    print(h);
+    print_next(width as usize);
+    print_next(wide(cutting::rails(width)));
+    end_line();
+}
+
+// Per height its line, from t - 1 down to 0.
+fn print_heights(t: usize, widths: &[u16; 20]) {
+    let mut h = least(t, 20);
+    while h > 0 {
+        h -= 1;
+        print_height(h, widths[h]);
+    }
+}
+
+// The rows from place at up to place end.
+fn print_rows(rows: &[u8], at: usize, end: usize) {
+    let last = least(end, rows.len());
+    let mut i = at;
+    while i < last {
+        print_next(wide(rows[i]));
+        i += 1;
+    }
+}
+
+// Per cell top height, bottom height, rows.
+fn print_cells(cells: usize, records: &[u8], rows: &[u8]) {
+    let mut k = 0;
+    while k < cells {
+        let place = stored::cell_place(records, k);
+        io::write_all(STDOUT_FILENO, b"cell");
+        print_next(place.top);
+        print_next(place.bottom);
+        print_rows(rows, place.at, place.end);
+        end_line();
+        k += 1;
+    }
+}
+
+fn node_memory() -> [u16; 30720]
+    ensures { λ r. ⌜ 30720 ≡ length r ⌝ }
+{
+    [0u16; 30720]
+}
+
+fn record_memory() -> [u8; 80]
+    ensures { λ r. ⌜ 80 ≡ length r ⌝ }
+{
+    [0u8; 80]
+}
+
+fn row_memory() -> [u8; 32768]
+    ensures { λ r. ⌜ 32768 ≡ length r ⌝ }
+{
+    [0u8; 32768]
+}
+
+// Prints the listing of the job and sheet of the input, or "refused N".
+pub fn list(input: &[u8]) {
+    let mut nodes = node_memory();
+    let mut records = record_memory();
+    let mut rows = row_memory();
+    let compiled = compile_input(input, &mut nodes, &mut records, &mut rows);
+    if compiled.refusal != 0 {
+        io::write_all(STDOUT_FILENO, b"refused");
+        print_next(wide(compiled.refusal));
+        end_line();
+        return;
+    }
+    let t = number(input, 0) + number(input, 1);
+    let widths = compiled.widths;
+    print_heights(t, &widths);
+    let used = least(t * 4, 80);
+    print_cells(wide(compiled.cells), &records[..used], &rows);
+}
+
+// The same of standard input. Of more than 4,096 bytes the first 4,096 decide the answer.
+pub fn list_input() {
+    let mut buf = io::buffer();
+    let n = io::read_full(0, &mut buf);
+    list(&buf[..n]);
+}
+
+// Lists each job of the bytes, one after another, which is headed by its number of bytes (two, the low byte first).
+fn list_each(bytes: &[u8]) {
+    let mut at = 0;
+    while at + 2 <= bytes.len() {
+        let size = wide(bytes[at]) + wide(bytes[at + 1]) * 256;
+        let to = least(at + 2 + size, bytes.len());
+        list(&bytes[at + 2..to]);
+        at = to;
+    }
+}
+
+// The same of the first 65,536 bytes of standard input.
+pub fn list_jobs() {
+    let mut buf = io::large_buffer();
+    let n = io::read_full(0, &mut buf);
+    list_each(&buf[..n]);
+}
