@@ -1,0 +1,2 @@
+-- The panel's definitions.
+pub mod Exported

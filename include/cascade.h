@@ -1,0 +1,91 @@
+/* The proved compiler for C: a job and its logic sheet in, a cascade out.
+ *
+ * Link with target/staticlib/libpanel.a (made by `rt staticlib panel`).
+ *
+ * Every function takes any numbers and any bytes, ends, and reads and writes nothing but what it is lent. On a
+ * refusal it leaves all lent memory as it was. A slice is a pointer and its number of elements; a slice of no
+ * elements needs a pointer that is not null. Slices lent to one call must not overlap, save that those only read
+ * (const) may be the same.
+ */
+#ifndef CASCADE_H
+#define CASCADE_H
+
+#include <stddef.h>
+#include <stdint.h>
+
+#ifdef __cplusplus
+extern "C" {
+#endif
+
+/* A job: n inputs (1 to 12), m outputs (1 to 8), cell limits of k inputs (2 to 12) and l outputs (1 to 8), and an
+ * order of n + m bytes, top first: input i is i, output i is 128 + i. The sheet is records of 8 bytes. */
+
+/* Memory that is enough for every job. */
+#define CASCADE_NODE_WORDS 30720 /* 10,240 nodes: height, child for 0, child for 1 */
+#define CASCADE_RECORD_BYTES 80  /* 20 records of 4 bytes */
+#define CASCADE_ROW_BYTES 32768
+#define CASCADE_WIDTHS 20
+#define CASCADE_TABLE_BYTES 32768
+
+/* refusal is 0 where the job was accepted, else
+ *   1  n, m, k or l out of range          2  the order is not each variable once
+ *   3  length of the sheet                4  bits of a record
+ *   5  two records contradict each other  6  an output stands above an input named for it
+ *   7  over 512 columns at some height    8  no cut list meets k and l
+ *   9  nodes shorter than 3 words a node  10 records shorter than 4 x (n + m)
+ *   11 rows shorter than the rows
+ * The lowest wins; then the other fields are 0. */
+typedef struct {
+    uint8_t refusal;
+    uint16_t nodes;
+    uint8_t cells;
+    uint16_t rows;
+    uint32_t bits;
+} cascade_totals;
+
+/* The compiler. On acceptance
+ *   nodes    holds 3 words for each node: height, child for 0, child for 1; child 0 is constant 0, child 1 constant 1, and
+ *            the first node is number 2;
+ *   records  holds n + m records of 4 bytes: variable, 1 if a cut lies directly below, rails at that cut, 0;
+ *   rows     holds the rows of all cells, top cell first;
+ *   widths   holds the widths at the heights 0 to n + m - 1, then zeros.
+ * nodes, records and rows keep what lies past the part written. Stack: CASCADE_COMPILE_STACK bytes are enough. */
+#define CASCADE_COMPILE_STACK 524288
+cascade_totals cascade_compile(size_t n, size_t m, size_t k, size_t l,
+                               const uint8_t *order, size_t order_length,
+                               const uint8_t *sheet, size_t sheet_length,
+                               uint16_t *nodes, size_t nodes_length,
+                               uint8_t *records, size_t records_length,
+                               uint8_t *rows, size_t rows_length,
+                               uint16_t widths[CASCADE_WIDTHS]);
+
+/* The least of refusals 1 to 6 of a job and its sheet; 0 where there is none. */
+uint8_t cascade_sheet_refusal(size_t n, size_t m, size_t k, size_t l,
+                              const uint8_t *order, size_t order_length,
+                              const uint8_t *sheet, size_t sheet_length);
+
+/* The same. Where it is 0, table holds at its front m lines of 2^n values, lowest output first: 0, 1, or 2 for free; the
+ * place in a line is the inputs read down the order, topmost most significant. */
+uint8_t cascade_sheet_table(size_t n, size_t m, size_t k, size_t l,
+                            const uint8_t *order, size_t order_length,
+                            const uint8_t *sheet, size_t sheet_length,
+                            uint8_t table[CASCADE_TABLE_BYTES]);
+
+/* The reduction alone: the least of refusals 1 to 7, or 0 and the number of nodes; then widths and words are written as
+ * cascade_compile writes widths and nodes, save that widths past n + m - 1 are kept. */
+typedef struct {
+    uint8_t refusal;
+    uint16_t nodes;
+} cascade_reduction;
+
+cascade_reduction cascade_reduce(size_t n, size_t m, size_t k, size_t l,
+                                 const uint8_t *order, size_t order_length,
+                                 const uint8_t *sheet, size_t sheet_length,
+                                 uint16_t widths[CASCADE_WIDTHS],
+                                 uint16_t words[CASCADE_NODE_WORDS]);
+
+#ifdef __cplusplus
+}
+#endif
+
+#endif

@@ -1,0 +1,73 @@
+/* How much stack the exported functions take on the job on standard input: a thread's stack is painted before the call and looked
+ * at after it.
+ * Build: cc -O2 -I include tools/stack.c target/staticlib/libpanel.a -lpthread -o stack */
+#include "cascade.h"
+
+#include <pthread.h>
+#include <stdio.h>
+#include <stdlib.h>
+#include <string.h>
+
+enum { STACK = 8 << 20, PAINT = 0xA5 };
+
+static uint8_t input[4096];
+static size_t length;
+static uint16_t nodes[CASCADE_NODE_WORDS];
+static uint8_t records[CASCADE_RECORD_BYTES];
+static uint8_t rows[CASCADE_ROW_BYTES];
+static uint16_t widths[CASCADE_WIDTHS];
+static unsigned refusal;
+
+static const uint8_t *order(void) { return input + 4; }
+static size_t variables(void) { return (size_t)input[0] + input[1]; }
+static const uint8_t *sheet(void) { return input + 4 + variables(); }
+static size_t sheet_length(void) { return length - 4 - variables(); }
+
+static void *nothing(void *unused) { return unused; }
+
+static void *compile(void *unused)
+{
+    refusal = cascade_compile(input[0], input[1], input[2], input[3], order(), variables(), sheet(), sheet_length(), nodes,
+                              CASCADE_NODE_WORDS, records, CASCADE_RECORD_BYTES, rows, CASCADE_ROW_BYTES, widths)
+                  .refusal;
+    return unused;
+}
+
+static void *reduce(void *unused)
+{
+    refusal = cascade_reduce(input[0], input[1], input[2], input[3], order(), variables(), sheet(), sheet_length(), widths, nodes)
+                  .refusal;
+    return unused;
+}
+
+static size_t used_by(void *(*call)(void *))
+{
+    uint8_t *stack = aligned_alloc(4096, STACK);
+    pthread_attr_t attributes;
+    pthread_t thread;
+    size_t clean = 0;
+    if (stack == NULL)
+        abort();
+    memset(stack, PAINT, STACK);
+    if (pthread_attr_init(&attributes) || pthread_attr_setstack(&attributes, stack, STACK)
+        || pthread_create(&thread, &attributes, call, NULL) || pthread_join(thread, NULL))
+        abort();
+    while (clean < STACK && stack[clean] == PAINT)
+        clean++;
+    free(stack);
+    return STACK - clean;
+}
+
+int main(void)
+{
+    length = fread(input, 1, sizeof input, stdin);
+    if (length < 4 || length < 4 + variables()) {
+        fputs("the input ends inside the order\n", stderr);
+        return 2;
+    }
+    size_t least = used_by(nothing);
+    printf("cascade_reduce %zu\n", used_by(reduce) - least);
+    printf("cascade_compile %zu\n", used_by(compile) - least);
+    printf("refusal %u\n", refusal);
+    return 0;
+}
