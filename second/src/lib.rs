@@ -8,4 +8,5 @@ pub mod generate;
 pub mod job;
 pub mod list;
 pub mod plain;
+pub mod run;
 pub mod stored;

@@ -3,25 +3,9 @@
 use second::cases;
 use second::generate::{job, Family};
 use second::job::Job;
+use second::run::output_of as run;
 use second::{fast, list, plain};
-use std::io::Write;
-use std::process::{Command, Stdio};
-
-/// What a program prints on this input; it must end with exit status 0.
-fn run(program: &str, arguments: &[&str], input: &[u8]) -> String {
-    let mut child = Command::new(program)
-        .args(arguments)
-        .stdin(Stdio::piped())
-        .stdout(Stdio::piped())
-        .spawn()
-        .expect("the program starts");
-    let mut stdin = child.stdin.take().expect("piped");
-    let _ = stdin.write_all(input);
-    drop(stdin);
-    let output = child.wait_with_output().expect("the program ends");
-    assert!(output.status.success(), "{:?}", output.status);
-    String::from_utf8(output.stdout).expect("text")
-}
+use std::process::Command;
 
 fn raw(job: &Job) -> Vec<u8> {
     let numbers = [job.inputs, job.outputs, job.cell_inputs, job.cell_outputs];

@@ -15,6 +15,17 @@ pub struct Reduction {
     pub nodes: u16,
 }
 
+/// What the compiler answers: a refusal, 1 to 11, and no more; or 0 and the totals.
+#[repr(C)]
+#[derive(Clone, Copy, Debug, Default, PartialEq, Eq)]
+pub struct Totals {
+    pub refusal: u8,
+    pub nodes: u16,
+    pub cells: u8,
+    pub rows: u16,
+    pub bits: u32,
+}
+
 mod exported {
     extern "C" {
         pub fn cascade_sheet_refusal(
@@ -50,6 +61,23 @@ mod exported {
             widths: *mut [u16; super::WIDTHS],
             words: *mut [u16; super::NODE_WORDS],
         ) -> super::Reduction;
+        pub fn cascade_compile(
+            n: usize,
+            m: usize,
+            k: usize,
+            l: usize,
+            order: *const u8,
+            order_length: usize,
+            sheet: *const u8,
+            sheet_length: usize,
+            nodes: *mut u16,
+            nodes_length: usize,
+            records: *mut u8,
+            records_length: usize,
+            rows: *mut u8,
+            rows_length: usize,
+            widths: *mut [u16; super::WIDTHS],
+        ) -> super::Totals;
     }
 }
 
@@ -123,4 +151,80 @@ pub fn reduce(job: &Job, widths: &mut [u16; WIDTHS], words: &mut [u16; NODE_WORD
             words,
         )
     }
+}
+
+/// The whole compiler: where nothing is refused three words a node, the stored records and the rows are written to the front of
+/// the three memories, and the widths at heights 0 to t - 1, then zeros, to the array.
+pub fn compile(
+    job: &Job,
+    nodes: &mut [u16],
+    records: &mut [u8],
+    rows: &mut [u8],
+    widths: &mut [u16; WIDTHS],
+) -> Totals {
+    let [n, m, k, l] = numbers(job);
+    let (order, sheet) = (&job.order, &job.sheet);
+    // SAFETY: as above; the four memories are slices of their own.
+    unsafe {
+        exported::cascade_compile(
+            n,
+            m,
+            k,
+            l,
+            order.as_ptr(),
+            order.len(),
+            sheet.as_ptr(),
+            sheet.len(),
+            nodes.as_mut_ptr(),
+            nodes.len(),
+            records.as_mut_ptr(),
+            records.len(),
+            rows.as_mut_ptr(),
+            rows.len(),
+            widths,
+        )
+    }
+}
+
+/// Jobs with numbers of any size, and with orders and sheets of any length and contents, made of a good one.
+pub fn odd_jobs(good: &Job) -> Vec<Job> {
+    let mut jobs = Vec::new();
+    for number in [0, 1, 2, 8, 9, 12, 13, 255, 256, 257, 1 << 32, u64::MAX] {
+        for place in 0..4 {
+            let mut job = good.clone();
+            let numbers = [
+                &mut job.inputs,
+                &mut job.outputs,
+                &mut job.cell_inputs,
+                &mut job.cell_outputs,
+            ];
+            *numbers.into_iter().nth(place).expect("four numbers") = number;
+            jobs.push(job);
+        }
+        // n + m comes round to the order's length.
+        let mut job = good.clone();
+        job.outputs = (job.order.len() as u64).wrapping_sub(number);
+        job.inputs = number;
+        jobs.push(job.clone());
+        job.outputs = u64::MAX;
+        jobs.push(job);
+    }
+    for length in [
+        0, 1, 7, 8, 19, 20, 21, 100, 2_040, 2_047, 2_048, 2_049, 2_056, 70_000,
+    ] {
+        let any = |i: usize| (i * 37) as u8;
+        let mut job = good.clone();
+        job.order = (0..length).map(any).collect();
+        jobs.push(job.clone());
+        job.sheet = Vec::new();
+        jobs.push(job.clone());
+        job.order = good.order.clone();
+        job.sheet = vec![0; length];
+        jobs.push(job.clone());
+        job.sheet = (0..length).map(any).collect();
+        jobs.push(job.clone());
+        job.order = Vec::new();
+        jobs.push(job);
+    }
+    jobs
 }

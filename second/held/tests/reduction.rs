@@ -1,7 +1,7 @@
 //! The reduction against `fast` and `plain`: refusal, number of nodes, and every word of both arrays after, over old
 //! contents that vary.
 
-use held::{reduce, Reduction, NODE_WORDS, WIDTHS};
+use held::{odd_jobs, reduce, Reduction, NODE_WORDS, WIDTHS};
 use second::fast::{self, Compiler};
 use second::generate::{job, Family};
 use second::job::{Answer, Job, Lent, Node};
@@ -319,46 +319,10 @@ fn no_record() {
 #[test]
 fn odd_numbers_and_lengths() {
     let mut seen: BTreeMap<u8, u64> = BTreeMap::new();
-    let mut try_one = |job: &Job, index: u64| {
-        let refusal = both(job, index).err().unwrap_or(0);
+    let jobs = odd_jobs(&job(Family::SmallOrders, SEED, 3));
+    for (index, job) in jobs.iter().enumerate() {
+        let refusal = both(job, index as u64).err().unwrap_or(0);
         *seen.entry(refusal).or_default() += 1;
-    };
-    let good = job(Family::SmallOrders, SEED, 3);
-    for number in [0, 1, 2, 8, 9, 12, 13, 255, 256, 257, 1 << 32, u64::MAX] {
-        for place in 0..4 {
-            let mut job = good.clone();
-            let numbers = [
-                &mut job.inputs,
-                &mut job.outputs,
-                &mut job.cell_inputs,
-                &mut job.cell_outputs,
-            ];
-            *numbers.into_iter().nth(place).expect("four numbers") = number;
-            try_one(&job, number);
-        }
-        // n + m comes round to the order's length.
-        let mut job = good.clone();
-        job.outputs = (job.order.len() as u64).wrapping_sub(number);
-        job.inputs = number;
-        try_one(&job, number);
-        job.outputs = u64::MAX;
-        try_one(&job, number);
-    }
-    for length in [
-        0, 1, 7, 8, 19, 20, 21, 100, 2_040, 2_047, 2_048, 2_049, 2_056, 70_000,
-    ] {
-        let mut job = good.clone();
-        job.order = (0..length).map(|i| (i * 37) as u8).collect();
-        try_one(&job, length as u64);
-        job.sheet = Vec::new();
-        try_one(&job, length as u64);
-        job.order = good.order.clone();
-        job.sheet = vec![0; length];
-        try_one(&job, length as u64);
-        job.sheet = (0..length).map(|i| (i * 37) as u8).collect();
-        try_one(&job, length as u64);
-        job.order = Vec::new();
-        try_one(&job, length as u64);
     }
     println!("odd: {seen:?}");
     assert!((0..=3).all(|number| seen.contains_key(&number)), "{seen:?}");

@@ -1,6 +1,6 @@
 //! The sheet layer against `plain`: refusal and every byte of the table after, over old contents that vary.
 
-use held::{sheet_refusal, sheet_table, TABLE_BYTES};
+use held::{odd_jobs, sheet_refusal, sheet_table, TABLE_BYTES};
 use second::generate::{job, Family};
 use second::job::Job;
 use second::plain;
@@ -73,30 +73,12 @@ fn larger() {
 /// Numbers of any size and slices of any length and contents.
 #[test]
 fn odd_numbers_and_lengths() {
-    let good = job(Family::SmallOrders, SEED, 3);
     let old = [7u8; TABLE_BYTES];
-    for number in [0, 1, 9, 13, 255, 256, 1 << 32, u64::MAX] {
-        for place in 0..4 {
-            let mut job = good.clone();
-            let numbers = [
-                &mut job.inputs,
-                &mut job.outputs,
-                &mut job.cell_inputs,
-                &mut job.cell_outputs,
-            ];
-            *numbers.into_iter().nth(place).expect("four numbers") = number;
-            let (number, table) = expected(&job, &old);
-            let mut lent = old;
-            assert_eq!(sheet_table(&job, &mut lent), number, "{job:?}");
-            assert!(lent[..] == table[..]);
-        }
-    }
-    for length in [0, 1, 19, 20, 21, 100, 70_000] {
-        let mut job = good.clone();
-        job.order = (0..length).map(|i| (i * 37) as u8).collect();
-        assert_eq!(sheet_refusal(&job), expected(&job, &old).0);
-        job.order = good.order.clone();
-        job.sheet = vec![0; length];
-        assert_eq!(sheet_refusal(&job), expected(&job, &old).0);
+    for job in odd_jobs(&job(Family::SmallOrders, SEED, 3)) {
+        let (number, table) = expected(&job, &old);
+        let mut lent = old;
+        assert_eq!(sheet_table(&job, &mut lent), number, "{job:?}");
+        assert!(lent[..] == table[..]);
+        assert_eq!(sheet_refusal(&job), number, "{job:?}");
     }
 }

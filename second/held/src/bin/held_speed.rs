@@ -1,9 +1,9 @@
 //! Times the proved layers against `fast`, in one run: the same jobs, both built for release. Argument: jobs for each family.
 
-use held::{reduce, sheet_refusal, sheet_table, NODE_WORDS, TABLE_BYTES, WIDTHS};
+use held::{compile, reduce, sheet_refusal, sheet_table, NODE_WORDS, TABLE_BYTES, WIDTHS};
 use second::fast::{self, read, Compiler};
 use second::generate::{job, Family};
-use second::job::Job;
+use second::job::{Job, Lent, Node};
 use second::plain;
 use std::process::ExitCode;
 use std::time::Instant;
@@ -45,11 +45,15 @@ fn sheet(name: &str, jobs: &[Job]) {
     );
 }
 
+/// The jobs that the sheet layer accepts.
+fn accepted(jobs: &[Job]) -> Vec<&Job> {
+    jobs.iter().filter(|job| sheet_refusal(job) == 0).collect()
+}
+
 /// The sheet layer and the reduction together, on jobs that the sheet layer accepts. `plain` merges at every height
 /// but makes no nodes; it is run once a job, on one job in ten.
 fn reduction(name: &str, jobs: &[Job]) {
-    let accepted = |job: &&Job| sheet_refusal(job) == 0;
-    let jobs: Vec<&Job> = jobs.iter().filter(accepted).collect();
+    let jobs = accepted(jobs);
     if jobs.is_empty() {
         return;
     }
@@ -93,6 +97,45 @@ fn reduction(name: &str, jobs: &[Job]) {
     );
 }
 
+/// The whole compiler with memory enough, on jobs that the sheet layer accepts.
+fn compiled(name: &str, jobs: &[Job]) {
+    let jobs = accepted(jobs);
+    if jobs.is_empty() {
+        return;
+    }
+    let mut compiler = Compiler::new();
+    let mut widths = [0u16; WIDTHS];
+    let mut words = vec![0u16; NODE_WORDS];
+    let (mut records, mut rows) = (vec![0u8; 80], vec![0u8; 32_768]);
+    let mut lent = Lent {
+        nodes: vec![Node::default(); NODE_WORDS / 3],
+        records: records.clone(),
+        rows: rows.clone(),
+    };
+    let (mut proved, mut rival, mut worst, mut refused) = (0.0, 0.0, 0.0f64, 0);
+    for job in &jobs {
+        let mut run = || compile(job, &mut words, &mut records, &mut rows, &mut widths);
+        refused += u32::from(run().refusal != 0);
+        let one = least(|| {
+            run();
+        });
+        let other = least(|| {
+            let _ = compiler.compile(job, &mut lent);
+        });
+        proved += one;
+        rival += other;
+        worst = worst.max(one);
+    }
+    let count = jobs.len() as f64;
+    println!(
+        "| compile | {name} | {} | {refused} | {:.1} | {:.1} | {:.2} | {worst:.1} |",
+        jobs.len(),
+        proved / count,
+        rival / count,
+        proved / rival,
+    );
+}
+
 fn main() -> ExitCode {
     let count = match std::env::args().nth(1).map(|text| text.parse::<u64>()) {
         None => 200,
@@ -132,6 +175,13 @@ fn main() -> ExitCode {
     println!("|---|---|---|---|---|---|---|---|---|");
     for (name, jobs) in &rows {
         reduction(name, jobs);
+    }
+    println!();
+    println!("The whole compiler.");
+    println!("| layer | family | jobs | refused | proved | fast | ratio | proved, worst |");
+    println!("|---|---|---|---|---|---|---|---|");
+    for (name, jobs) in &rows {
+        compiled(name, jobs);
     }
     ExitCode::SUCCESS
 }
