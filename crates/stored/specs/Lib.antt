@@ -4,3 +4,4 @@ pub mod Stored
 pub mod Places
 pub mod Run
 pub mod ReadWrite
+pub mod Reads

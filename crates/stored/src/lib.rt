@@ -3,11 +3,13 @@ mod casts;
 mod formed;
 mod places;
 mod read_write;
+mod reads;
 
 ghost use mathlib.Core.Path.{_≡_};
 ghost use Rattle.stored.specs.Cells.{fits, usableRows, usableBits};
-ghost use Rattle.stored.specs.Stored.{wellFormed};
+ghost use Rattle.stored.specs.Stored.{wellFormed, recordsFormed, cellCount};
 ghost use Rattle.stored.specs.Places.{cellPlace};
+ghost use Rattle.stored.specs.Reads.{rowsCounted, cellRails, rowRead, outputsRead};
 ghost use Rattle.stored.specs.ReadWrite.{cascadeFrom, readAs, read, writtenAs, write};
 
 // A cell of a cascade by the number of its inputs and of its outputs, rails counted.
@@ -99,4 +101,52 @@ pub fn cell_place(records: &[u8], k: usize) -> CellPlace
     ensures { λ r. ⌜ r ≡ cellPlace (now (records .entry)) k ⌝ }
 {
     places::place_of(records, k)
+}
+
+// The rails above and below a cell.
+pub struct CellRails {
+    pub upper: u8,
+    pub lower: u8,
+}
+
+// The records alone are well formed.
+pub fn records_formed(records: &[u8]) -> bool
+    ensures { λ r. ⌜ r ≡ recordsFormed (now (records .entry)) ⌝ }
+{
+    formed::records_formed(records)
+}
+
+// How many cells any records have.
+pub fn cell_count(records: &[u8]) -> usize
+    ensures { λ r. ⌜ r ≡ cellCount (now (records .entry)) ⌝ }
+{
+    reads::count_cells(records)
+}
+
+// How many rows well formed records have, else 0.
+pub fn row_count(records: &[u8]) -> usize
+    ensures { λ r. ⌜ r ≡ rowsCounted (now (records .entry)) ⌝ }
+{
+    reads::count_rows(records)
+}
+
+// The rails of cell k; 0 where the records are not well formed or have no such cell.
+pub fn cell_rails(records: &[u8], k: usize) -> CellRails
+    ensures { λ r. ⌜ r ≡ cellRails (now (records .entry)) k ⌝ }
+{
+    reads::rails_of(records, k)
+}
+
+// Where the row stands that cell k reads for the rail word and the word of inputs; 0 where there is no such cell or rail word.
+pub fn row_read(records: &[u8], k: usize, rail: u16, word: u16) -> usize
+    ensures { λ r. ⌜ r ≡ rowRead (now (records .entry)) k rail word ⌝ }
+{
+    reads::row_of(records, k, rail, word)
+}
+
+// Sets the outputs of cell k to their bits of the row, and no others; nothing where there is no such cell.
+pub fn set_outputs(records: &[u8], k: usize, row: u8, outputs: &mut [u8])
+    ensures { λ _. ⌜ now (outputs .exit) ≡ outputsRead (now (records .entry)) k row (now (outputs .entry)) ⌝ }
+{
+    reads::put_outputs(records, k, row, outputs)
 }
