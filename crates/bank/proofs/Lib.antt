@@ -9,3 +9,10 @@ pub mod Rails
 pub mod LatchKeeps
 pub mod BookHolds
 pub mod BookUnread
+pub mod FormedCells
+pub mod Parts
+pub mod Related
+pub mod AdmitSame
+pub mod LatchSame
+pub mod StepSame
+pub mod AsBook
