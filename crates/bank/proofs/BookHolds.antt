@@ -6,7 +6,7 @@ use mathlib.Core.Logic.{_⊎_, inl, inr}
 use mathlib.Core.Bool.{Bool, true, false, cond, not, _||_}
 use mathlib.Core.List.{List, [], _∷_, map}
 use Prim.Native.Nat.{ℕ, zero, suc, _+_, _<_, _≤_}
-use native.Mathlib.Nat.{not-suc-le-zero, le-of-suc-le-suc}
+use native.Mathlib.Nat.{not-suc-le-zero}
 use native.Mathlib.Numerals.{add-one}
 use native.Mathlib.Omega.{arith}
 use lib.Dec.{eqb, leb, ltb}
@@ -22,7 +22,8 @@ use Rattle.stored.specs.Run.{run, unset}
 use Rattle.bank.specs.Book.{Block, Book, newBook, noBlock, blockAt, cellsIn, rowsIn, bookRefusal, wiped, entered, bookAdmit, bookLatch, bookStep}
 use Rattle.bank.specs.Lists.{Call, admission, latching, stepping, bookCall, bookAfter}
 use Rattle.bank.specs.Demand3.{CompiledBy, SetAllowed}
-use Rattle.bank.proofs.Scans.{readIn, stepped, scan-over, idle-keeps}
+use Rattle.bank.proofs.Scans.{readIn, stepped, scan-over, rest-keeps}
+use Rattle.bank.proofs.Parts.{map-at}
 use Rattle.bank.proofs.LatchKeeps.{Kept, kept-cells, latch-kept, latch-length, stepped-kept, stepped-length, scanned-at}
 use Rattle.bank.proofs.CompiledBlocks.{compiled-part}
 
@@ -84,7 +85,7 @@ latch-held S k ws h = held-kept S k (bookLatch k ws .state) (latch-kept k ws) h 
 
 step-shape : (k : Book) → Rests k ⊎ Latched k → Rests (bookStep (k .blocks) (k .toRead) .state) ⊎ Latched (bookStep (k .blocks) (k .toRead) .state)
 unfolding stepped
-step-shape k (inl r) = inl (subst Rests (sym (idle-keeps k (r .none))) r)
+step-shape k (inl r) = inl (subst Rests (sym (rest-keeps k (r .none))) r)
 step-shape k (inr c) =
     inr
     (record {
@@ -97,11 +98,6 @@ step-shape k (inr c) =
 step-held : (S : ℕ) (k : Book) → Held S k → Held S (bookStep (k .blocks) (k .toRead) .state)
 unfolding stepped
 step-held S k h = held-kept S k (bookStep (k .blocks) (k .toRead) .state) (stepped-kept (suc zero) k) h (step-shape k (h .shape))
-
-mapped-at : {A B : Type 0} (f : A → B) (l : List A) (d : A) (e : B) (i : ℕ) → i < length l → getD (map f l) i e ≡ f (getD l i d)
-mapped-at f [] d e i h = absurd (not-suc-le-zero h)
-mapped-at f (x ∷ xs) d e zero h = refl
-mapped-at f (x ∷ xs) d e (suc i) h = mapped-at f xs d e i (le-of-suc-le-suc h)
 
 -- the blocks after an accepted admission
 module _ (k : Book) (R bytes : List ℕ) where
@@ -118,7 +114,7 @@ module _ (k : Book) (R bytes : List ℕ) where
   unfolding entered
   entered-old b l =
       List·getD-append (map (wiped 0) (k .blocks)) (newBlock ∷ []) noBlock b (omega (arith, l, length-map (k .blocks) (wiped 0)))
-      ∙ mapped-at (wiped 0) (k .blocks) noBlock noBlock b l
+      ∙ map-at (wiped 0) (k .blocks) noBlock noBlock b l
 
   entered-new : blockAt (entered k R bytes .blocks) (length (k .blocks)) ≡ newBlock
   unfolding entered

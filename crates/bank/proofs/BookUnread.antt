@@ -82,7 +82,7 @@ stepped-on (suc n) s k =
     ap (λ (x : Book). bookStep (x .blocks) (x .toRead) .state) (stepped-on n s k) ∙ ap (λ (i : ℕ). stepped i k) e
 
 -- a latch with ws and one with vs, each with s steps after it
-module _ (S m : ℕ) (k : Book) (ws vs : List ℕ) where
+module _ (k : Book) (ws vs : List ℕ) where
   abbrev first : ℕ → Book
   first s = stepped s (bookLatch k ws .state)
 
@@ -92,7 +92,7 @@ module _ (S m : ℕ) (k : Book) (ws vs : List ℕ) where
   abbrev Unread : ℕ → Type 0
   Unread s = OnlyUnread (k .blocks) ws vs (take s (allPlaces (k .blocks)))
 
-  both-kept : (s : ℕ) → Kept (second s .blocks) (first s .blocks)
+  pub both-kept : (s : ℕ) → Kept (second s .blocks) (first s .blocks)
   both-kept s =
       let x = bookLatch k ws .state .blocks in
       let y = bookLatch k vs .state .blocks in
@@ -102,26 +102,31 @@ module _ (S m : ℕ) (k : Book) (ws vs : List ℕ) where
   first-long : (s : ℕ) → length (first s .blocks) ≡ length (k .blocks)
   first-long s = stepped-kept s (bookLatch k ws .state) .long ∙ latch-kept k ws .long
 
-  outputs-within : (s : ℕ) → s ≤ cellsIn (k .blocks) → Unread s → outputsInBook (second s) ≡ outputsInBook (first s)
+  pub same-at : (s b : ℕ) → Unread s → b < length (k .blocks)
+      → (blockAt (first s .blocks) b .outputs ≡ blockAt (second s .blocks) b .outputs)
+      × (blockAt (first s .blocks) b .rail ≡ blockAt (second s .blocks) b .rail)
+  same-at s b u h =
+      let n = cellsIn (k .blocks) in
+      by-less s n (λ l. same-scan k ws vs s (omega arith) u b h)
+      (λ l.
+      let all = same-scan k ws vs n (omega arith) (unread-fewer (k .blocks) ws vs (allPlaces (k .blocks)) n s l u) b h in
+      let p = scan-over k ws s l in
+      let q = scan-over k vs s l in (
+        ap (λ (x : Book). blockAt (x .blocks) b .outputs) p ∙ all .0 ∙ ap (λ (x : Book). blockAt (x .blocks) b .outputs) (sym q),
+        ap (λ (x : Book). blockAt (x .blocks) b .rail) p ∙ all .1 ∙ ap (λ (x : Book). blockAt (x .blocks) b .rail) (sym q),
+      ))
+
+  pub same-outputs : (s : ℕ) → Unread s → outputsInBook (second s) ≡ outputsInBook (first s)
   unfolding outputsInBook
-  outputs-within s l u =
+  same-outputs s u =
       let f : Block → List ℕ = λ B. B .outputs in
       ext-getD [] (map f (second s .blocks)) (map f (first s .blocks))
       (length-map (second s .blocks) f ∙ both-kept s .long ∙ sym (length-map (first s .blocks) f))
       (λ b h.
       let b< : b < length (k .blocks) = omega (arith, h, length-map (second s .blocks) f, both-kept s .long, first-long s) in
-      List·getD-map f (second s .blocks) b noBlock ∙ sym (same-scan k ws vs s l u b b<) ∙ sym (List·getD-map f (first s .blocks) b noBlock))
+      List·getD-map f (second s .blocks) b noBlock ∙ sym (same-at s b u b< .0) ∙ sym (List·getD-map f (first s .blocks) b noBlock))
 
-  same-outputs : (s : ℕ) → Unread s → outputsInBook (second s) ≡ outputsInBook (first s)
-  same-outputs s u =
-      let n = cellsIn (k .blocks) in
-      by-less s n (λ l. outputs-within s (omega arith) u)
-      (λ l.
-      ap outputsInBook (scan-over k vs s l)
-      ∙ outputs-within n (omega arith) (unread-fewer (k .blocks) ws vs (allPlaces (k .blocks)) n s l u)
-      ∙ ap outputsInBook (sym (scan-over k ws s l)))
-
-  same-left : (s : ℕ) → second s .toRead ≡ first s .toRead
+  pub same-left : (s : ℕ) → second s .toRead ≡ first s .toRead
   unfolding bookLatch
   same-left s = stepped-left s (bookLatch k vs .state) ∙ sym (stepped-left s (bookLatch k ws .state))
 
@@ -129,47 +134,48 @@ module _ (S m : ℕ) (k : Book) (ws vs : List ℕ) where
   step-answered s =
       ap (λ (l : List Place). bookStep (second s .blocks) l .answer) (same-left s) ∙ same-answer (second s .blocks) (first s .blocks) (first s .toRead)
 
-  same-from : (since : List Call) (s : ℕ) → goesOn S m (first s) since ≡ true → Unread (s + stepsOf since)
-      → (bookTrace S m (second s) since ≡ bookTrace S m (first s) since) × (goesOn S m (second s) since ≡ true)
-  unfolding goesOn bookTrace bookCall stepsOf ends stepped
-  same-from [] s h u = (refl, refl)
-  same-from (admission R bytes ∷ cs) s h u =
-      let no = refused-keeps S m (first s) R bytes (goesOn S m (bookAdmit S m (first s) R bytes .state) cs) h .3 in
-      let is = same-refusal S m (second s .blocks) (first s .blocks) R bytes (both-kept s) in
-      let no′ = ap (λ (n : ℕ). eqb n 0) is ∙ no in
-      let less : s ≤ s + stepsOf cs = omega arith in
-      let rest = same-from cs s (sym (goes-refused S m (first s) R bytes cs no) ∙ h) u in
-      let same = same-outputs s (unread-fewer (k .blocks) ws vs (allPlaces (k .blocks)) s (s + stepsOf cs) less u) in (
-        trace-refused S m (second s) R bytes cs no′ ∙ ap₂ (λ (e : Entry) (es : List Entry). e ∷ es) (ap₂ (λ (n : ℕ) (o : List (List ℕ)). entry (refused n) o) is same) (rest .0)
-            ∙ sym (trace-refused S m (first s) R bytes cs no),
-        goes-refused S m (second s) R bytes cs no′ ∙ rest .1,
-      )
-  same-from (latching us ∷ cs) s h u = absurd (false≢true h)
-  same-from (stepping ∷ cs) s h u =
-      let e : s + suc (stepsOf cs) ≡ suc s + stepsOf cs = omega arith in
-      let u′ = subst Unread e u in
-      let less : suc s ≤ suc s + stepsOf cs = omega arith in
-      let rest = same-from cs (suc s) h u′ in
-      let same = same-outputs (suc s) (unread-fewer (k .blocks) ws vs (allPlaces (k .blocks)) (suc s) (suc s + stepsOf cs) less u′) in
-      (ap₂ (λ (e : Entry) (es : List Entry). e ∷ es) (ap₂ entry (step-answered s) same) (rest .0), rest .1)
+  module _ (S m : ℕ) where
+    same-from : (since : List Call) (s : ℕ) → goesOn S m (first s) since ≡ true → Unread (s + stepsOf since)
+        → (bookTrace S m (second s) since ≡ bookTrace S m (first s) since) × (goesOn S m (second s) since ≡ true)
+    unfolding goesOn bookTrace bookCall stepsOf ends stepped
+    same-from [] s h u = (refl, refl)
+    same-from (admission R bytes ∷ cs) s h u =
+        let no = refused-keeps S m (first s) R bytes (goesOn S m (bookAdmit S m (first s) R bytes .state) cs) h .3 in
+        let is = same-refusal S m (second s .blocks) (first s .blocks) R bytes (both-kept s) in
+        let no′ = ap (λ (n : ℕ). eqb n 0) is ∙ no in
+        let less : s ≤ s + stepsOf cs = omega arith in
+        let rest = same-from cs s (sym (goes-refused S m (first s) R bytes cs no) ∙ h) u in
+        let same = same-outputs s (unread-fewer (k .blocks) ws vs (allPlaces (k .blocks)) s (s + stepsOf cs) less u) in (
+          trace-refused S m (second s) R bytes cs no′ ∙ ap₂ (λ (e : Entry) (es : List Entry). e ∷ es) (ap₂ (λ (n : ℕ) (o : List (List ℕ)). entry (refused n) o) is same) (rest .0)
+              ∙ sym (trace-refused S m (first s) R bytes cs no),
+          goes-refused S m (second s) R bytes cs no′ ∙ rest .1,
+        )
+    same-from (latching us ∷ cs) s h u = absurd (false≢true h)
+    same-from (stepping ∷ cs) s h u =
+        let e : s + suc (stepsOf cs) ≡ suc s + stepsOf cs = omega arith in
+        let u′ = subst Unread e u in
+        let less : suc s ≤ suc s + stepsOf cs = omega arith in
+        let rest = same-from cs (suc s) h u′ in
+        let same = same-outputs (suc s) (unread-fewer (k .blocks) ws vs (allPlaces (k .blocks)) (suc s) (suc s + stepsOf cs) less u′) in
+        (ap₂ (λ (e : Entry) (es : List Entry). e ∷ es) (ap₂ entry (step-answered s) same) (rest .0), rest .1)
 
-  same-both : (since : List Call) → goesOn S m (bookLatch k ws .state) since ≡ true
-      → OnlyUnread (k .blocks) ws vs (readsOf (bookTrace S m (bookLatch k ws .state) since))
-      → (bookTrace S m (bookLatch k vs .state) since ≡ bookTrace S m (bookLatch k ws .state) since) × (goesOn S m (bookLatch k vs .state) since ≡ true)
-  unfolding stepped
-  same-both since h u =
-      let e : stepsOf since ≡ 0 + stepsOf since = omega arith in
-      same-from since 0 h (subst Unread e (subst (OnlyUnread (k .blocks) ws vs) (scan-reads S m k ws since h) u))
+    same-both : (since : List Call) → goesOn S m (bookLatch k ws .state) since ≡ true
+        → OnlyUnread (k .blocks) ws vs (readsOf (bookTrace S m (bookLatch k ws .state) since))
+        → (bookTrace S m (bookLatch k vs .state) since ≡ bookTrace S m (bookLatch k ws .state) since) × (goesOn S m (bookLatch k vs .state) since ≡ true)
+    unfolding stepped
+    same-both since h u =
+        let e : stepsOf since ≡ 0 + stepsOf since = omega arith in
+        same-from since 0 h (subst Unread e (subst (OnlyUnread (k .blocks) ws vs) (scan-reads S m k ws since h) u))
 
 pub same-trace : (S m : ℕ) (k : Book) (ws vs : List ℕ) (since : List Call) → goesOn S m (bookLatch k ws .state) since ≡ true
     → OnlyUnread (k .blocks) ws vs (readsOf (bookTrace S m (bookLatch k ws .state) since))
     → bookTrace S m (bookLatch k vs .state) since ≡ bookTrace S m (bookLatch k ws .state) since
-same-trace S m k ws vs since h u = same-both S m k ws vs since h u .0
+same-trace S m k ws vs since h u = same-both k ws vs S m since h u .0
 
 pub same-goes : (S m : ℕ) (k : Book) (ws vs : List ℕ) (since : List Call) → goesOn S m (bookLatch k ws .state) since ≡ true
     → OnlyUnread (k .blocks) ws vs (readsOf (bookTrace S m (bookLatch k ws .state) since))
     → goesOn S m (bookLatch k vs .state) since ≡ true
-same-goes S m k ws vs since h u = same-both S m k ws vs since h u .1
+same-goes S m k ws vs since h u = same-both k ws vs S m since h u .1
 
 -- the whole scan: nothing is left to read, and each output of a compiled block is set to an allowed value
 module _ (k : Book) (vs : List ℕ) where

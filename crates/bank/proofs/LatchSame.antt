@@ -19,17 +19,9 @@ use Rattle.bank.specs.State.{State, Bank}
 use Rattle.bank.specs.Calls.{wordsKept, latched, latch}
 use Rattle.bank.specs.Book.{Block, Book, noBlock, blockAt, wiped, allPlaces, bookLatch}
 use Rattle.bank.proofs.FormedCells.{SameInputs, some-cell, kept-inputs}
-use Rattle.bank.proofs.Parts.{lines, lines-ext}
+use Rattle.bank.proofs.LatchKeeps.{latch-places}
 use Rattle.bank.proofs.Related.{recordsIn, total, SameBlock, Stands, Related, Match, all-formed, records-formed}
 use Rattle.bank.proofs.AdmitSame.{none-set}
-
--- blocks with the same records have the same cells
-pub places-same : (bs cs : List Block) → length bs ≡ length cs → ((b : ℕ) → b < length bs → recordsIn bs b ≡ recordsIn cs b) → allPlaces bs ≡ allPlaces cs
-unfolding allPlaces
-places-same bs cs e h =
-    lines-ext (λ b c. record { block = b; cell = c }) (λ b. cellCount (recordsIn bs b)) (λ b. cellCount (recordsIn cs b)) (length bs)
-    (λ b l. ap cellCount (h b l))
-    ∙ ap (λ (n : ℕ). lines (λ b. cellCount (recordsIn cs b)) (λ b c. record { block = b; cell = c }) n) e
 
 no-places : (bs : List Block) → length bs ≡ 0 → allPlaces bs ≡ []
 unfolding allPlaces
@@ -97,12 +89,12 @@ module _ (S m : ℕ) (s : State) (k : Book) (h : Related S m s k) (ws : List ℕ
 
   -- the scan stands at the first cell of the first block
   starts : 0 < n → Stands (t .scan) k′
-  unfolding latched wiped
+  unfolding latched wiped bookLatch
   starts some =
       record {
         block = omega (arith, same-length);
         cell = rw (same-records 0 some) (some-cell (recordsIn bs 0) (records-formed S m s k h 0 some));
-        toRead = sym (places-same bs′ bs same-length (λ b l. same-records b (omega (arith, same-length))));
+        toRead = sym (latch-places k ws);
         rail = ap (λ (x : Block). x .rail) (sym (wiped-at 0 some));
         small = pow-pos (cellAt (recordsIn bs′ 0) 0 .upper);
         later = λ b p l. ap (λ (x : Block). x .rail) (wiped-at b (omega (arith, same-length)));

@@ -16,3 +16,7 @@ pub mod AdmitSame
 pub mod LatchSame
 pub mod StepSame
 pub mod AsBook
+pub mod CallLists
+pub mod Reworded
+pub mod ScanClaims
+pub mod Demand3

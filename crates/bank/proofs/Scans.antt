@@ -181,9 +181,9 @@ scanned k ws (suc s) h =
     ap (λ (x : Book). bookStep (x .blocks) (x .toRead) .state) (scanned k ws s (omega arith)) ∙ next (k .blocks) ws s h
 
 -- with nothing to read, a step changes nothing
-pub idle-keeps : (k : Book) → k .toRead ≡ [] → bookStep (k .blocks) (k .toRead) .state ≡ k
+pub rest-keeps : (k : Book) → k .toRead ≡ [] → bookStep (k .blocks) (k .toRead) .state ≡ k
 unfolding bookStep
-idle-keeps k e =
+rest-keeps k e =
     ap (λ (l : List Place). bookStep (k .blocks) l .state) e ∙ ap (λ (l : List Place). record { blocks = k .blocks; toRead = l }) (sym e)
 
 -- steps past the last cell change nothing
@@ -197,7 +197,7 @@ over k ws (suc n) =
     ∙ drop-of-length-le (allPlaces (k .blocks)) {i = cellsIn (k .blocks)} (omega (arith, length-places (k .blocks))) in
     ap (λ (i : ℕ). stepped i (bookLatch k ws .state)) e
     ∙ ap (λ (x : Book). bookStep (x .blocks) (x .toRead) .state) (over k ws n)
-    ∙ idle-keeps (stepped (cellsIn (k .blocks)) (bookLatch k ws .state)) none
+    ∙ rest-keeps (stepped (cellsIn (k .blocks)) (bookLatch k ws .state)) none
 
 pub scan-over : (k : Book) (ws : List ℕ) (s : ℕ) → cellsIn (k .blocks) ≤ s
     → stepped s (bookLatch k ws .state) ≡ stepped (cellsIn (k .blocks)) (bookLatch k ws .state)

@@ -24,29 +24,23 @@ use Rattle.cutting.proofs.CellRead.{set-length}
 use Rattle.bank.specs.State.{State, Scan, recordsOf, rowsBefore, rowsHeld, formed}
 use Rattle.bank.specs.Calls.{idle, went, After, scanAt, nextRow, outputsOf, moved, step}
 use Rattle.bank.specs.Book.{Block, Place, Book, noBlock, blockAt, allPlaces, readCell, bookStep}
+use Rattle.bank.proofs.Scans.{noPlace, length-places, place-of}
+use Rattle.bank.proofs.LatchKeeps.{kept-places}
 use Rattle.bank.proofs.FormedCells.{some-cell, rails-follow, row-within, same-place}
-use Rattle.bank.proofs.Parts.{part, part-before, part-written, part-after, length-lines, lines-at}
-use Rattle.bank.proofs.Related.{recordsIn, total, SameBlock, Stands, Related, Match, rows-before, rows-held, records-formed, all-formed}
-use Rattle.bank.proofs.LatchSame.{places-same}
-
-abbrev noPlace : Place
-noPlace = record { block = 0; cell = 0 }
+use Rattle.bank.proofs.Parts.{part, part-before, part-written, part-after}
+use Rattle.bank.proofs.Related.{recordsIn, total, SameBlock, Stands, Related, Match, cells-in, rows-before, rows-held, records-formed, all-formed}
 
 -- the cells from place (b, c) on
 module _ (bs : List Block) where
-  pub length-places : length (allPlaces bs) ≡ total cellCount bs (length bs)
-  unfolding allPlaces
-  length-places = length-lines (λ b c. record { block = b; cell = c }) (λ b. cellCount (recordsIn bs b)) (length bs)
+  all-cells : length (allPlaces bs) ≡ total cellCount bs (length bs)
+  all-cells = length-places bs ∙ cells-in bs
 
-  pub place-next : (b c : ℕ) → b < length bs → c < cellCount (recordsIn bs b)
+  place-next : (b c : ℕ) → b < length bs → c < cellCount (recordsIn bs b)
       → drop (total cellCount bs b + c) (allPlaces bs) ≡ record { block = b; cell = c } ∷ drop (suc (total cellCount bs b + c)) (allPlaces bs)
-  unfolding allPlaces
   place-next b c l p =
       let at = total cellCount bs b + c in
-      let inside = sum-at (λ i. cellCount (recordsIn bs i)) (length bs) b l in
-      drop-cons (allPlaces bs) at noPlace (omega (arith, length-places))
-      ∙ ap (λ (q : Place). q ∷ drop (suc at) (allPlaces bs))
-      (lines-at (λ b c. record { block = b; cell = c }) (λ b. cellCount (recordsIn bs b)) noPlace (length bs) b c l p)
+      drop-cons (allPlaces bs) at noPlace (omega (arith, all-cells, sum-at (λ i. cellCount (recordsIn bs i)) (length bs) b l))
+      ∙ ap (λ (q : Place). q ∷ drop (suc at) (allPlaces bs)) (place-of bs b c l p)
 
 -- the outputs of all places after those of place b become vs
 module _ (l : List ℕ) (b : ℕ) (vs : List ℕ) (size : length vs ≡ 8) (fits : b * 8 + length vs ≤ length l) where
@@ -141,7 +135,7 @@ module _ (S m : ℕ) (s : State) (k : Book) (h : Related S m s k) (on : s .scan 
   total-all f = ap (total f bs′) same-length ∙ same-total f n
 
   same-places : allPlaces bs′ ≡ allPlaces bs
-  same-places = places-same bs′ bs same-length (λ a l. same-records a)
+  same-places = kept-places bs′ bs (record { long = same-length; records = same-records; rows = same-rows })
 
   -- the outputs after the read
   abbrev set-now : List ℕ
@@ -258,7 +252,7 @@ module _ (S m : ℕ) (s : State) (k : Book) (h : Related S m s k) (on : s .scan 
   all-read l g =
       let e : b + 1 ≡ n = omega (arith, q .block) in
       let last : suc j ≡ length (allPlaces bs) =
-      omega (arith, length-places bs, ap (total cellCount bs) (sym (add-one b) ∙ e), q .cell) in
+      omega (arith, all-cells bs, ap (total cellCount bs) (sym (add-one b) ∙ e), q .cell) in
       ap (λ (i : ℕ). drop i (allPlaces bs)) last ∙ drop-length (allPlaces bs)
 
   kept : (more next : Bool) → ltb (c + 1) (cellCount R) ≡ more → ltb (b + 1) n ≡ next

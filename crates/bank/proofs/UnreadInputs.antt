@@ -2,7 +2,7 @@
 -- Assumes nothing.
 use mathlib.Core.Path.{_≡_, refl, sym, _∙_, ap, subst}
 use mathlib.Core.List.{List, [], _∷_}
-use Prim.Native.Nat.{ℕ, zero, suc, _+_, _-_, _*_, _≤_, _<_}
+use Prim.Native.Nat.{ℕ, zero, suc, _+_, _*_, _≤_, _<_}
 use native.Mathlib.Nat.{not-suc-le-zero, le-of-suc-le-suc}
 use native.Mathlib.Omega.{arith}
 use lib.ListN.{length, getD, take, length-take}
@@ -12,7 +12,7 @@ use Rattle.stored.specs.Stored.{cellAt, rowsBefore}
 use Rattle.stored.specs.Run.{Running, address, rowPlace, outputsAfter, railAfter, run, ranOne}
 use Rattle.bank.specs.Book.{Block, Place, Book, blockAt, cellsIn, allPlaces, bookLatch}
 use Rattle.bank.specs.Demand3.{AgreeOn, OnlyUnread}
-use Rattle.bank.proofs.Scans.{cellsAbove, readIn, noPlace, stepped, length-places, place-of, cells-within}
+use Rattle.bank.proofs.Scans.{afterCells, cellsAbove, readIn, noPlace, stepped, length-places, place-of, cells-within}
 use Rattle.bank.proofs.LatchKeeps.{scanned-at}
 
 pub same-address : (is : List ℕ) (r w v : ℕ) → AgreeOn is w v → address r is w ≡ address r is v
@@ -48,14 +48,22 @@ agree-read bs ws vs s u b c h l =
     (unread-at bs ws vs (take s (allPlaces bs)) (cellsAbove bs b + c) u
     (omega (arith, length-take s (allPlaces bs), length-places bs, cells-within bs b h)))
 
+-- each block has set the same outputs and stands at the same rail word
 pub same-scan : (k : Book) (ws vs : List ℕ) (s : ℕ) → s ≤ cellsIn (k .blocks) → OnlyUnread (k .blocks) ws vs (take s (allPlaces (k .blocks)))
-    → (b : ℕ) → b < length (k .blocks) → blockAt (stepped s (bookLatch k ws .state) .blocks) b .outputs ≡ blockAt (stepped s (bookLatch k vs .state) .blocks) b .outputs
-same-scan k ws vs s l u b h =
-    outputs-at ws
-    ∙ ap (λ (x : Running). x .outputs)
-    (same-run (blockAt (k .blocks) b .records) (blockAt (k .blocks) b .rows) (getD ws b 0) (getD vs b 0) (readIn (k .blocks) s b) (λ c q. agree-read (k .blocks) ws vs s u b c h q))
-    ∙ sym (outputs-at vs)
+    → (b : ℕ) → b < length (k .blocks)
+    → (blockAt (stepped s (bookLatch k ws .state) .blocks) b .outputs ≡ blockAt (stepped s (bookLatch k vs .state) .blocks) b .outputs)
+    × (blockAt (stepped s (bookLatch k ws .state) .blocks) b .rail ≡ blockAt (stepped s (bookLatch k vs .state) .blocks) b .rail)
+same-scan k ws vs s l u b h = (
+  ap (λ (x : Block). x .outputs) (is ws) ∙ ap (λ (x : Running). x .outputs) same ∙ ap (λ (x : Block). x .outputs) (sym (is vs)),
+  ap (λ (x : Block). x .rail) (is ws) ∙ ap (λ (x : Running). x .rail) same ∙ ap (λ (x : Block). x .rail) (sym (is vs)),
+)
   where
-    outputs-at : (us : List ℕ) → blockAt (stepped s (bookLatch k us .state) .blocks) b .outputs
-        ≡ run (blockAt (k .blocks) b .records) (blockAt (k .blocks) b .rows) (getD us b 0) (readIn (k .blocks) s b) .outputs
-    outputs-at us = ap (λ (x : Block). x .outputs) (scanned-at k us s b l h)
+    B : Block
+    B = blockAt (k .blocks) b
+
+    is : (us : List ℕ) → blockAt (stepped s (bookLatch k us .state) .blocks) b ≡ afterCells B (getD us b 0) (readIn (k .blocks) s b)
+    is us = scanned-at k us s b l h
+
+    same : run (B .records) (B .rows) (getD ws b 0) (readIn (k .blocks) s b) ≡ run (B .records) (B .rows) (getD vs b 0) (readIn (k .blocks) s b)
+    same =
+        same-run (B .records) (B .rows) (getD ws b 0) (getD vs b 0) (readIn (k .blocks) s b) (λ c q. agree-read (k .blocks) ws vs s u b c h q)
