@@ -20,3 +20,8 @@ pub mod CallLists
 pub mod Reworded
 pub mod ScanClaims
 pub mod Demand3
+pub mod HeldBlocks
+pub mod Admits
+pub mod Latches
+pub mod NextRead
+pub mod StepCases

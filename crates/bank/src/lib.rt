@@ -1,4 +1,15 @@
-// The bank layer: admission, latch, step, the book and demand 3. So far its definitions (specs/).
+// The bank layer: admission, latch and step, on a bank and a scan state by value and a lent row memory.
+mod admitting;
+mod formed;
+mod latching;
+mod stepping;
+
+ghost use mathlib.Core.Path.{_≡_};
+ghost use mathlib.Core.List.{List};
+ghost use Prim.Native.Nat.{ℕ};
+ghost use Rattle.bank.specs.State.{formed};
+ghost use Rattle.bank.specs.Calls.{admit, latch, step};
+ghost use Rattle.bank.specs.Given.{stateOf, givenNumber, givenAnswer, started};
 
 // A bank: the scan limit S, how many blocks are held, the number of records of each, and their records, 80 bytes a place.
 pub struct Bank {
@@ -24,4 +35,68 @@ pub enum StepAnswer {
     Went(u8, u8),
     Idle,
     Refused(u8),
+}
+
+// A new bank and its fresh scan state; refusal 1 where S is out of range.
+pub struct Started {
+    pub refusal: u8,
+    pub bank: Bank,
+    pub scan: Scan,
+}
+
+// What admission answers: 0 or its refusal, and bank and scan state after.
+pub struct Admitted {
+    pub refusal: u8,
+    pub bank: Bank,
+    pub scan: Scan,
+}
+
+// What a latch answers: 0 or 12, and the scan state after.
+pub struct Latched {
+    pub refusal: u8,
+    pub scan: Scan,
+}
+
+// What a step answers, and the scan state after.
+pub struct Stepped {
+    pub answer: StepAnswer,
+    pub scan: Scan,
+}
+
+// A bank with the scan limit S.
+pub fn start(limit: u16) -> Started
+    ensures { λ r. ⌜ r ≡ started limit ⌝ }
+{
+    admitting::start(limit)
+}
+
+// Bank and scan state hold nothing that gives 12.
+pub fn well_formed(bank: Bank, scan: Scan) -> bool
+    ensures { λ r. ⌜ r ≡ formed bank scan ⌝ }
+{
+    formed::state_formed(bank, scan)
+}
+
+// Admits a block: 12, 13, 14 or 11 and nothing changes; else 0, its records are copied and its rows appended to the row memory, all set
+// outputs are cleared and no scan runs.
+pub fn admit(bank: Bank, scan: Scan, records: &[u8], bytes: &[u8], rows: &mut [u8]) -> Admitted
+    ensures { λ r.
+        ⌜ givenNumber (r .refusal) (r .bank) (r .scan) (now (rows .exit))
+        ≡ admit (stateOf bank scan (now (rows .entry))) (now (records .entry)) (now (bytes .entry)) ⌝ }
+{
+    admitting::admit_block(bank, scan, records, bytes, rows)
+}
+
+// Latches eight words, clears all set outputs and starts a scan; or 12 and nothing changes. The row memory takes no part.
+pub fn latch(bank: Bank, scan: Scan, words: [u16; 8]) -> Latched
+    ensures { λ r. ⌜ ((rows : List ℕ) → givenNumber (r .refusal) bank (r .scan) rows ≡ latch (stateOf bank scan rows) words) ⌝ }
+{
+    latching::latch_words(bank, scan, words)
+}
+
+// Moves the scan on by one read of the rows: 12, then Idle, then 11, else the block and cell that were read.
+pub fn step(bank: Bank, scan: Scan, rows: &[u8]) -> Stepped
+    ensures { λ r. ⌜ givenAnswer (r .answer) bank (r .scan) (now (rows .entry)) ≡ step (stateOf bank scan (now (rows .entry))) ⌝ }
+{
+    stepping::step_once(bank, scan, rows)
 }

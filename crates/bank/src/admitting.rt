@@ -1,0 +1,153 @@
+// A new bank, and admission.
+ghost use mathlib.Core.Path.{_≡_};
+ghost use Prim.Native.Nat.{_≤_, _<_, _+_, _*_};
+ghost use lib.ListN.{length, getD};
+ghost use Rattle.laws.specs.Lists.{putsAt};
+ghost use Rattle.bank.specs.State.{emptyBank, atRest};
+ghost use Rattle.bank.specs.Calls.{withBlock, admit};
+ghost use Rattle.bank.specs.Given.{stateOf, givenNumber, started};
+use crate::Admitted;
+use crate::Bank;
+use crate::Scan;
+use crate::Started;
+use crate::formed::cells_before;
+use crate::formed::rows_before;
+use crate::formed::state_formed;
+use crate::formed::wide;
+
+fn empty_bank(limit: u16) -> Bank
+    ensures { λ r. ⌜ r ≡ emptyBank limit ⌝ }
+{
+    Bank {
+        limit,
+        count: 0,
+        lengths: [0u8; 8],
+        records: [0u8; 640],
+    }
+}
+
+// No scan, nothing set.
+pub fn at_rest() -> Scan
+    ensures { λ r. ⌜ r ≡ atRest ⌝ }
+{
+    Scan {
+        running: false,
+        block: 0,
+        cell: 0,
+        rail: 0,
+        words: [0u16; 8],
+        outputs: [2u8; 64],
+    }
+}
+
+pub fn start(limit: u16) -> Started
+    ensures { λ r. ⌜ r ≡ started limit ⌝ }
+{
+    if limit < 1 {
+        return Started {
+            refusal: 1,
+            bank: empty_bank(0),
+            scan: at_rest(),
+        };
+    }
+    if 255 < limit {
+        return Started {
+            refusal: 1,
+            bank: empty_bank(0),
+            scan: at_rest(),
+        };
+    }
+    Started {
+        refusal: 0,
+        bank: empty_bank(limit),
+        scan: at_rest(),
+    }
+}
+
+// All bytes of from, at the places of to from at on.
+fn copy_at(from: &[u8], at: usize, to: &mut [u8])
+    requires { ⌜ at + length (now from) ≤ length (now to) ⌝ }
+    ensures { λ _. ⌜ now (to .exit) ≡ putsAt at (length (now (from .entry))) (λ i. getD (now (from .entry)) i 0) (now (to .entry)) ⌝ }
+{
+    let mut i = 0;
+    while i < from.len() {
+        to[at + i] = from[i];
+        i += 1;
+    }
+}
+
+// The bank with one block more, of 1 to 20 records.
+fn with_block(bank: Bank, records: &[u8]) -> Bank
+    requires { ⌜ (bank .count < 8) × (length (now records) ≤ 80) ⌝ }
+    ensures { λ r. ⌜ r ≡ withBlock bank (now (records .entry)) ⌝ }
+{
+    let count = wide(bank.count);
+    let mut lengths = bank.lengths;
+    lengths[count] = (records.len() / 4) as u8;
+    let mut held = bank.records;
+    copy_at(records, count * 80, &mut held);
+    Bank {
+        limit: bank.limit,
+        count: bank.count + 1,
+        lengths,
+        records: held,
+    }
+}
+
+pub fn admit_block(
+    bank: Bank,
+    scan: Scan,
+    records: &[u8],
+    bytes: &[u8],
+    rows: &mut [u8],
+) -> Admitted
+    ensures { λ r.
+        ⌜ givenNumber (r .refusal) (r .bank) (r .scan) (now (rows .exit))
+        ≡ admit (stateOf bank scan (now (rows .entry))) (now (records .entry)) (now (bytes .entry)) ⌝ }
+{
+    if !state_formed(bank, scan) {
+        return Admitted {
+            refusal: 12,
+            bank,
+            scan,
+        };
+    }
+    if !stored::well_formed(records, bytes) {
+        return Admitted {
+            refusal: 12,
+            bank,
+            scan,
+        };
+    }
+    let count = wide(bank.count);
+    if 8 <= count {
+        return Admitted {
+            refusal: 13,
+            bank,
+            scan,
+        };
+    }
+    let cells = cells_before(bank, count) + stored::cell_count(records);
+    if (bank.limit as usize) < cells {
+        return Admitted {
+            refusal: 14,
+            bank,
+            scan,
+        };
+    }
+    let at = rows_before(bank, count);
+    let total = at + stored::row_count(records);
+    if (rows.len() < total) | (32768 < total) {
+        return Admitted {
+            refusal: 11,
+            bank,
+            scan,
+        };
+    }
+    copy_at(bytes, at, rows);
+    Admitted {
+        refusal: 0,
+        bank: with_block(bank, records),
+        scan: at_rest(),
+    }
+}

@@ -1,0 +1,165 @@
+// The test for 12: the bank and the scan state.
+ghost use mathlib.Core.Path.{_≡_};
+ghost use mathlib.Core.Bool.{true, _&&_};
+ghost use Prim.Native.Nat.{ℕ, _≤_, _<_, _^_};
+ghost use lib.Dec.{ltb};
+ghost use Rattle.laws.specs.Tests.{every};
+ghost use Rattle.stored.specs.Stored.{cellCount, cellAt, rowCount};
+ghost use Rattle.bank.specs.State.{recordsOf, blockFormed, cellsBefore, rowsBefore, bankFormed, scanFormed, formed};
+use crate::Bank;
+use crate::Scan;
+
+pub fn wide(x: u8) -> usize
+    ensures { λ r. ⌜ (r ≡ x) × (r < 256) ⌝ }
+{
+    x as usize
+}
+
+// The block at place b has 1 to 20 records, and they are well formed.
+fn block_formed(bank: Bank, b: usize) -> bool
+    requires { ⌜ b < 8 ⌝ }
+    ensures { λ r. ⌜ r ≡ blockFormed bank b ⌝ }
+{
+    let lengths = bank.lengths;
+    let n = wide(lengths[b]);
+    if n < 1 {
+        return false;
+    }
+    if 20 < n {
+        return false;
+    }
+    let records = bank.records;
+    stored::records_formed(&records[b * 80..b * 80 + n * 4])
+}
+
+fn blocks_formed(bank: Bank, count: usize) -> bool
+    requires { ⌜ count ≤ 8 ⌝ }
+    ensures { λ r. ⌜ r ≡ every count (blockFormed bank) ⌝ }
+{
+    let mut good = true;
+    let mut b = 0;
+    while b < count {
+        good = good & block_formed(bank, b);
+        b += 1;
+    }
+    good
+}
+
+// The cells, and the rows, of the block at place b, whose records are well formed.
+fn block_cells(bank: Bank, b: usize) -> usize
+    requires { ⌜ (b < 8) × (blockFormed bank b ≡ true) ⌝ }
+    ensures { λ r. ⌜ (r ≡ cellCount (recordsOf bank b)) × (r ≤ 20) ⌝ }
+{
+    let lengths = bank.lengths;
+    let n = wide(lengths[b]);
+    let records = bank.records;
+    stored::cell_count(&records[b * 80..b * 80 + n * 4])
+}
+
+fn block_rows(bank: Bank, b: usize) -> usize
+    requires { ⌜ (b < 8) × (blockFormed bank b ≡ true) ⌝ }
+    ensures { λ r. ⌜ (r ≡ rowCount (recordsOf bank b)) × (r ≤ 32768) ⌝ }
+{
+    let lengths = bank.lengths;
+    let n = wide(lengths[b]);
+    let records = bank.records;
+    stored::row_count(&records[b * 80..b * 80 + n * 4])
+}
+
+// The cells, and the rows, of the blocks before place n.
+pub fn cells_before(bank: Bank, n: usize) -> usize
+    requires { ⌜ (n ≤ 8) × ((b : ℕ) → b < n → blockFormed bank b ≡ true) ⌝ }
+    ensures { λ r. ⌜ (r ≡ cellsBefore bank n) × (r ≤ 160) ⌝ }
+{
+    let mut cells = 0;
+    let mut b = 0;
+    while b < n {
+        cells = cells + block_cells(bank, b);
+        b += 1;
+    }
+    cells
+}
+
+pub fn rows_before(bank: Bank, n: usize) -> usize
+    requires { ⌜ (n ≤ 8) × ((b : ℕ) → b < n → blockFormed bank b ≡ true) ⌝ }
+    ensures { λ r. ⌜ (r ≡ rowsBefore bank n) × (r ≤ 262144) ⌝ }
+{
+    let mut rows = 0;
+    let mut b = 0;
+    while b < n {
+        rows = rows + block_rows(bank, b);
+        b += 1;
+    }
+    rows
+}
+
+fn bank_formed(bank: Bank) -> bool
+    ensures { λ r. ⌜ r ≡ bankFormed bank ⌝ }
+{
+    let limit = bank.limit;
+    let count = wide(bank.count);
+    if limit < 1 {
+        return false;
+    }
+    if 255 < limit {
+        return false;
+    }
+    if 8 < count {
+        return false;
+    }
+    if blocks_formed(bank, count) {
+        let cells = cells_before(bank, count);
+        let rows = rows_before(bank, count);
+        return (cells <= limit as usize) & (rows <= 32768);
+    }
+    false
+}
+
+// The rail words of a cell of the block at place b, whose records are well formed.
+fn rail_words(bank: Bank, b: usize, cell: usize) -> usize
+    requires { ⌜ (b < 8) × (blockFormed bank b ≡ true) × (cell < cellCount (recordsOf bank b)) ⌝ }
+    ensures { λ r. ⌜ r ≡ 2 ^ cellAt (recordsOf bank b) cell .upper ⌝ }
+{
+    let lengths = bank.lengths;
+    let n = wide(lengths[b]);
+    let records = bank.records;
+    let rails = stored::cell_rails(&records[b * 80..b * 80 + n * 4], cell);
+    let upper = wide(rails.upper);
+    1 << upper
+}
+
+// The cell and the rail word are among those of the block at place b, whose records are well formed.
+fn read_formed(bank: Bank, b: usize, cell: usize, rail: usize) -> bool
+    requires { ⌜ (b < 8) × (blockFormed bank b ≡ true) ⌝ }
+    ensures { λ r. ⌜ r ≡ (ltb cell (cellCount (recordsOf bank b)) && ltb rail (2 ^ cellAt (recordsOf bank b) cell .upper)) ⌝ }
+{
+    if cell < block_cells(bank, b) {
+        return rail < rail_words(bank, b, cell);
+    }
+    false
+}
+
+// Of a formed bank: with reads left, the block, cell and rail word are among those held.
+fn scan_formed(bank: Bank, scan: Scan) -> bool
+    requires { ⌜ bankFormed bank ≡ true ⌝ }
+    ensures { λ r. ⌜ r ≡ scanFormed bank scan ⌝ }
+{
+    if scan.running {
+        let b = wide(scan.block);
+        if b < wide(bank.count) {
+            return read_formed(bank, b, wide(scan.cell), scan.rail as usize);
+        }
+        return false;
+    }
+    true
+}
+
+// Bank and scan state hold nothing that gives 12.
+pub fn state_formed(bank: Bank, scan: Scan) -> bool
+    ensures { λ r. ⌜ r ≡ formed bank scan ⌝ }
+{
+    if bank_formed(bank) {
+        return scan_formed(bank, scan);
+    }
+    false
+}

@@ -1,0 +1,52 @@
+// Latching.
+ghost use mathlib.Core.Path.{_≡_};
+ghost use mathlib.Core.List.{List};
+ghost use Prim.Native.Nat.{ℕ, _≤_};
+ghost use Rattle.bank.specs.Calls.{wordsKept, latched, latch};
+ghost use Rattle.bank.specs.Given.{stateOf, givenNumber};
+use crate::Bank;
+use crate::Latched;
+use crate::Scan;
+use crate::formed::state_formed;
+use crate::formed::wide;
+
+// The words of the blocks held, bits above 11 left out.
+fn words_kept(bank: Bank, words: [u16; 8]) -> [u16; 8]
+    requires { ⌜ bank .count ≤ 8 ⌝ }
+    ensures { λ r. ⌜ r ≡ wordsKept bank words ⌝ }
+{
+    let count = wide(bank.count);
+    let mut kept = [0u16; 8];
+    let mut b = 0;
+    while b < count {
+        kept[b] = words[b] % 4096;
+        b += 1;
+    }
+    kept
+}
+
+fn latched(bank: Bank, words: [u16; 8]) -> Scan
+    requires { ⌜ bank .count ≤ 8 ⌝ }
+    ensures { λ r. ⌜ r ≡ latched bank words ⌝ }
+{
+    Scan {
+        running: 0 < bank.count,
+        block: 0,
+        cell: 0,
+        rail: 0,
+        words: words_kept(bank, words),
+        outputs: [2u8; 64],
+    }
+}
+
+pub fn latch_words(bank: Bank, scan: Scan, words: [u16; 8]) -> Latched
+    ensures { λ r. ⌜ ((rows : List ℕ) → givenNumber (r .refusal) bank (r .scan) rows ≡ latch (stateOf bank scan rows) words) ⌝ }
+{
+    if state_formed(bank, scan) {
+        return Latched {
+            refusal: 0,
+            scan: latched(bank, words),
+        };
+    }
+    Latched { refusal: 12, scan }
+}

@@ -1,0 +1,159 @@
+// The step: one read.
+ghost use mathlib.Core.Path.{_≡_};
+ghost use mathlib.Core.Bool.{true};
+ghost use Prim.Native.Nat.{_≤_, _+_, _*_, _%_, _^_};
+ghost use lib.Dec.{ltb};
+ghost use lib.ListN.{length};
+ghost use Rattle.laws.specs.Lists.{written};
+ghost use Rattle.stored.specs.Stored.{cellCount, cellAt};
+ghost use Rattle.stored.specs.Run.{outputsAfter, railAfter};
+ghost use Rattle.bank.specs.State.{recordsOf, rowsHeld, formed};
+ghost use Rattle.bank.specs.Calls.{nextRow, outputsOf, moved, step};
+ghost use Rattle.bank.specs.Given.{stateOf, givenAnswer};
+use crate::Bank;
+use crate::Scan;
+use crate::StepAnswer;
+use crate::Stepped;
+use crate::formed::rows_before;
+use crate::formed::state_formed;
+use crate::formed::wide;
+
+// The row that the next cell reads.
+fn next_row(bank: Bank, scan: Scan, rows: &[u8]) -> u8
+    requires { ⌜ (formed bank scan ≡ true) × (scan .running ≡ true) × (rowsHeld bank ≤ length (now rows)) ⌝ }
+    ensures { λ r. ⌜ r ≡ nextRow bank scan (now (rows .entry)) ⌝ }
+{
+    let b = wide(scan.block);
+    let lengths = bank.lengths;
+    let n = wide(lengths[b]);
+    let records = bank.records;
+    let words = scan.words;
+    let place = stored::row_read(
+        &records[b * 80..b * 80 + n * 4],
+        wide(scan.cell),
+        scan.rail,
+        words[b],
+    );
+    rows[rows_before(bank, b) + place]
+}
+
+// The cell of the next read is not the last of its block.
+fn more_cells(bank: Bank, scan: Scan) -> bool
+    requires { ⌜ (formed bank scan ≡ true) × (scan .running ≡ true) ⌝ }
+    ensures { λ r. ⌜ r ≡ ltb (scan .cell + 1) (cellCount (recordsOf bank (scan .block))) ⌝ }
+{
+    let b = wide(scan.block);
+    let lengths = bank.lengths;
+    let n = wide(lengths[b]);
+    let records = bank.records;
+    let cells = stored::cell_count(&records[b * 80..b * 80 + n * 4]);
+    wide(scan.cell) + 1 < cells
+}
+
+// The lowest bits of x.
+fn lowest(x: u8, bits: u8) -> u16
+    requires { ⌜ bits ≤ 8 ⌝ }
+    ensures { λ r. ⌜ r ≡ x % 2 ^ bits ⌝ }
+{
+    (x as u16) % (1 << bits)
+}
+
+// The rail word after the row x is read.
+fn rail_after(bank: Bank, scan: Scan, x: u8) -> u16
+    requires { ⌜ (formed bank scan ≡ true) × (scan .running ≡ true) ⌝ }
+    ensures { λ r. ⌜ r ≡ railAfter (cellAt (recordsOf bank (scan .block)) (scan .cell)) x ⌝ }
+{
+    let b = wide(scan.block);
+    let lengths = bank.lengths;
+    let n = wide(lengths[b]);
+    let records = bank.records;
+    let rails = stored::cell_rails(&records[b * 80..b * 80 + n * 4], wide(scan.cell));
+    lowest(x, rails.lower)
+}
+
+// All outputs after the row x is read.
+fn outputs_after(bank: Bank, scan: Scan, x: u8) -> [u8; 64]
+    requires { ⌜ (formed bank scan ≡ true) × (scan .running ≡ true) ⌝ }
+    ensures { λ r.
+        ⌜ r
+        ≡ written (scan .outputs) (scan .block * 8)
+        (outputsAfter (cellAt (recordsOf bank (scan .block)) (scan .cell)) (outputsOf scan (scan .block)) x) ⌝ }
+{
+    let b = wide(scan.block);
+    let lengths = bank.lengths;
+    let n = wide(lengths[b]);
+    let records = bank.records;
+    let mut outputs = scan.outputs;
+    stored::set_outputs(
+        &records[b * 80..b * 80 + n * 4],
+        wide(scan.cell),
+        x,
+        &mut outputs[b * 8..b * 8 + 8],
+    );
+    outputs
+}
+
+// The scan state moved on by one read, of the row x.
+fn moved_on(bank: Bank, scan: Scan, x: u8) -> Scan
+    requires { ⌜ (formed bank scan ≡ true) × (scan .running ≡ true) ⌝ }
+    ensures { λ r. ⌜ r ≡ moved bank scan x ⌝ }
+{
+    let words = scan.words;
+    let outputs = outputs_after(bank, scan, x);
+    if more_cells(bank, scan) {
+        return Scan {
+            running: true,
+            block: scan.block,
+            cell: scan.cell + 1,
+            rail: rail_after(bank, scan, x),
+            words,
+            outputs,
+        };
+    }
+    if scan.block + 1 < bank.count {
+        return Scan {
+            running: true,
+            block: scan.block + 1,
+            cell: 0,
+            rail: 0,
+            words,
+            outputs,
+        };
+    }
+    Scan {
+        running: false,
+        block: 0,
+        cell: 0,
+        rail: 0,
+        words,
+        outputs,
+    }
+}
+
+pub fn step_once(bank: Bank, scan: Scan, rows: &[u8]) -> Stepped
+    ensures { λ r. ⌜ givenAnswer (r .answer) bank (r .scan) (now (rows .entry)) ≡ step (stateOf bank scan (now (rows .entry))) ⌝ }
+{
+    if !state_formed(bank, scan) {
+        return Stepped {
+            answer: StepAnswer::Refused(12),
+            scan,
+        };
+    }
+    if !scan.running {
+        return Stepped {
+            answer: StepAnswer::Idle,
+            scan,
+        };
+    }
+    if rows.len() < rows_before(bank, wide(bank.count)) {
+        return Stepped {
+            answer: StepAnswer::Refused(11),
+            scan,
+        };
+    }
+    let x = next_row(bank, scan, rows);
+    Stepped {
+        answer: StepAnswer::Went(scan.block, scan.cell),
+        scan: moved_on(bank, scan, x),
+    }
+}
