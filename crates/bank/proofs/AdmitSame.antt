@@ -23,7 +23,7 @@ use Rattle.bank.specs.State.{State, recordsOf, rowsHeld, cleared}
 use Rattle.bank.specs.Calls.{numbered, admitRefusal, withBlock, admitted, admit, outputsOf, scanAt}
 use Rattle.bank.specs.Book.{Block, Book, noBlock, blockAt, cellsIn, rowsIn, bookRefusal, wiped, entered, bookAdmit}
 use Rattle.bank.proofs.FormedCells.{row-bytes}
-use Rattle.bank.proofs.Parts.{part, part-before, part-written, part-replicate, map-at}
+use Rattle.laws.proofs.Parts.{part, part-before, part-written, part-replicate, map-at}
 use Rattle.bank.proofs.Related.{recordsIn, total, SameBlock, Related, Match, cells-in, rows-in, cells-held, rows-held, all-formed}
 
 -- no output is set in any place

@@ -8,13 +8,10 @@ use native.Mathlib.Omega.{arith}
 use borrow.Author.Tests.{eqb-true, ltb-false, lt-ltb, le-ltb, le-leb, lt-leb}
 use lib.Dec.{eqb, ltb}
 use lib.ListN.{length, getD, set}
-use lib.Seq.{sets}
 use Rattle.laws.specs.Lists.{putsAt, written}
 use Rattle.laws.specs.Tests.{every}
 use Rattle.laws.proofs.Cases.{cond-yes, cond-no, and-split, or-split}
-use Rattle.laws.proofs.Lists.{tab-of}
-use Rattle.laws.proofs.Filled.{written-sets}
-use Rattle.laws.proofs.Puts.{putsAt-sets}
+use Rattle.laws.proofs.Puts.{copied-at}
 use Rattle.stored.specs.Stored.{wellFormed, recordsFormed, rowsFormed, recordCount, cellCount, rowCount}
 use Rattle.stored.specs.Reads.{rowsCounted}
 use Rattle.stored.proofs.StoredParts.{records-have}
@@ -43,10 +40,6 @@ pub started-good : (S : ℕ) → 1 ≤ S → S ≤ 255 → madeStart S ≡ start
 unfolding started limitRefused
 started-good S l h = rw (le-leb 1 S l, le-leb S 255 h) refl
 
--- all elements of vs stored one after another from place i on
-pub copied : (l : List ℕ) (i : ℕ) (vs : List ℕ) → i + length vs ≤ length l → putsAt i (length vs) (λ k. getD vs k 0) l ≡ written l i vs
-copied l i vs h = putsAt-sets (λ k. getD vs k 0) i (length vs) l ∙ ap (sets l i) (tab-of 0 vs) ∙ sym (written-sets l i vs h)
-
 -- the bank with the block, from its parts
 pub block-added : (k : Bank) (R : List ℕ) {n : ℕ} {held : List ℕ} → n ≡ k .count → n * 80 + length R ≤ length (k .records)
     → held ≡ putsAt (n * 80) (length R) (λ i. getD R i 0) (k .records)
@@ -54,7 +47,7 @@ pub block-added : (k : Bank) (R : List ℕ) {n : ℕ} {held : List ℕ} → n �
 unfolding withBlock
 block-added k R {n} {held} e h p =
     ap₂ (λ (i : ℕ) (l : List ℕ). record { limit = k .limit; count = k .count + 1; lengths = set (k .lengths) i (length R / 4); records = l }) e
-    (p ∙ copied (k .records) (n * 80) R h ∙ ap (λ (i : ℕ). written (k .records) (i * 80) R) e)
+    (p ∙ copied-at (k .records) (n * 80) R h ∙ ap (λ (i : ℕ). written (k .records) (i * 80) R) e)
 
 -- what holds of a bank whose state is well formed
 pub bank-there : (k : Bank) (s : Scan) → formed k s ≡ true → BankHas k
@@ -150,5 +143,5 @@ module _ (k : Bank) (s : Scan) (rows R bytes : List ℕ) where
               → rows′ ≡ putsAt a (length bytes) (λ i. getD bytes i 0) rows → givenNumber 0 k′ s′ rows′ ≡ admit held R bytes
           unfolding numbered admitted
           admit-accepts x y z =
-              let rest : _ = z ∙ copied rows a bytes rows-fit ∙ ap (λ (i : ℕ). written rows i bytes) (u ∙ ap (rowsBefore k) p) in
+              let rest : _ = z ∙ copied-at rows a bytes rows-fit ∙ ap (λ (i : ℕ). written rows i bytes) (u ∙ ap (rowsBefore k) p) in
               (λ i. givenNumber 0 (x i) (y i) (rest i)) ∙ answered 0 (past-14 ∙ cond-no (short (a + r)) 11 0 e)

@@ -23,7 +23,7 @@ use Rattle.bank.specs.Book.{Block, Book, newBook, noBlock, blockAt, cell
 use Rattle.bank.specs.Lists.{Call, admission, latching, stepping, bookCall, bookAfter}
 use Rattle.bank.specs.Demand3.{CompiledBy, SetAllowed}
 use Rattle.bank.proofs.Scans.{readIn, stepped, scan-over, rest-keeps}
-use Rattle.bank.proofs.Parts.{map-at}
+use Rattle.laws.proofs.Parts.{map-at}
 use Rattle.bank.proofs.LatchKeeps.{Kept, kept-cells, latch-kept, latch-length, stepped-kept, stepped-length, scanned-at}
 use Rattle.bank.proofs.CompiledBlocks.{compiled-part}
 

@@ -12,6 +12,7 @@ use lib.ListN.{length, getD, take}
 use Rattle.laws.specs.Lists.{written}
 use Rattle.laws.proofs.Cases.{either, by-less, cond-no}
 use Rattle.laws.proofs.Bits.{flag-lt}
+use Rattle.laws.proofs.Filled.{written-front}
 use Rattle.sheet.specs.Job.{Job, t, outs, varAt, isInput, inputList, numberOf}
 use Rattle.sheet.specs.Refusals.{refuse1, refuse2, refuse3, refuse4, refuse5, refuse6, sheetRefusal}
 use Rattle.sheet.specs.Table.{table}
@@ -20,7 +21,6 @@ use Rattle.reduction.specs.declared.Node.{Node}
 use Rattle.reduction.specs.Merge.{reduced, refuse7}
 use Rattle.stored.specs.Stored.{cellCount}
 use Rattle.stored.specs.Run.{Running, run}
-use Rattle.stored.proofs.ReadWriteCases.{written-front}
 use Rattle.cutting.specs.Choice.{refuse8}
 use Rattle.cutting.specs.Compile.{Answer, refused, accepted, CompiledAs, made, totals, refusal, acceptance, compile}
 use Rattle.cutting.proofs.Demand2.{case, refuses, accepts, decided}

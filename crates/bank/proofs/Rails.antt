@@ -22,7 +22,7 @@ use Rattle.cutting.proofs.StoredCuts.{stored-cut, stored-rails}
 use Rattle.cutting.proofs.RailCounts.{rails-enough, rails-least, rails-at, width-at}
 use Rattle.bank.specs.Book.{Block}
 use Rattle.bank.specs.Demand3.{CompiledBy, FewestBits, mergedColumns}
-use Rattle.bank.proofs.DifferentWords.{different-words}
+use Rattle.laws.proofs.DifferentWords.{different-words}
 use Rattle.bank.proofs.CompiledBlocks.{compiled-records}
 
 pub fewest-bits : (w : ℕ) → FewestBits (rails w) w

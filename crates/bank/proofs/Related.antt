@@ -20,7 +20,7 @@ use Rattle.bank.specs.Calls.{After, outputsOf}
 use Rattle.bank.specs.Book.{Block, Book, noBlock, blockAt, cellsIn, rowsIn, allPlaces}
 use Rattle.bank.specs.Lists.{outputsHeld, outputsInBook}
 use Rattle.bank.proofs.FormedCells.{SameInputs}
-use Rattle.bank.proofs.Parts.{map-at}
+use Rattle.laws.proofs.Parts.{map-at}
 
 abbrev pub recordsIn : List Block → ℕ → List ℕ
 recordsIn bs b = blockAt bs b .records

@@ -27,7 +27,7 @@ use Rattle.bank.specs.Book.{Block, Place, Book, noBlock, blockAt, allPla
 use Rattle.bank.proofs.Scans.{noPlace, length-places, place-of}
 use Rattle.bank.proofs.LatchKeeps.{kept-places}
 use Rattle.bank.proofs.FormedCells.{some-cell, rails-follow, row-within, same-place}
-use Rattle.bank.proofs.Parts.{part, part-before, part-written, part-after}
+use Rattle.laws.proofs.Parts.{part, part-before, part-written, part-after}
 use Rattle.bank.proofs.Related.{recordsIn, total, SameBlock, Stands, Related, Match, cells-in, rows-before, rows-held, records-formed, all-formed}
 
 -- the cells from place (b, c) on

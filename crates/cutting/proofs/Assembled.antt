@@ -11,9 +11,8 @@ use lib.ListN.{length, getD, replicate}
 use lib.Seq.{sets}
 use Rattle.laws.specs.Lists.{joined, puts, written}
 use Rattle.laws.proofs.Cases.{and-split}
-use Rattle.laws.proofs.Lists.{tab-of}
 use Rattle.laws.proofs.Filled.{written-sets}
-use Rattle.laws.proofs.Puts.{puts-ext, puts-sets}
+use Rattle.laws.proofs.Puts.{puts-ext, copied}
 use Rattle.sheet.specs.Job.{Job, t, ins}
 use Rattle.sheet.specs.Refusals.{sheetRefusal}
 use Rattle.sheet.specs.Table.{table}
@@ -199,9 +198,7 @@ module _ (j : Job) (s : List ℕ) (r : Reduction) (is : r ≡ reduction j s) whe
                   let vs : List ℕ = nodeWords (made j (table j s) .nodes) in
                   ap (λ (n : ℕ). puts n (λ i. getD words i 0) nodes) (sym node-words)
                   ∙ puts-ext (λ i. getD words i 0) (λ i. getD vs i 0) (length vs) nodes (λ i h. same i)
-                  ∙ puts-sets (λ i. getD vs i 0) (length vs) nodes
-                  ∙ ap (sets nodes 0) (tab-of 0 vs)
-                  ∙ sym (written-sets nodes 0 vs (omega (arith, fits)))
+                  ∙ copied vs nodes fits
 
               records-put : sets records 0 (joined (t j) (recordIn (t j) (j .order) (p .rails) (p .cuts) (cells + 1)))
                   ≡ written records 0 (made j (table j s) .records)

@@ -2,61 +2,26 @@
 -- Assumes nothing.
 use mathlib.Core.Path.{_≡_, refl, sym, _∙_, ap, ap₂}
 use mathlib.Core.Bool.{Bool, true, false, cond, _||_}
-use mathlib.Core.List.{List, [], _∷_, _++_}
-use Prim.Native.Nat.{ℕ, zero, suc, _+_, _-_, _*_, _/_, _%_, _^_, _<_, _≤_}
-use native.Mathlib.Nat.{add-zero, zero-add, suc-add, pow-suc, mul-assoc, div-one}
+use mathlib.Core.List.{List}
+use Prim.Native.Nat.{ℕ, suc, _+_, _-_, _*_, _/_, _%_, _^_, _<_, _≤_}
+use native.Mathlib.Nat.{add-zero, zero-add, pow-suc, mul-assoc, div-one}
 use native.Mathlib.Omega.{arith}
 use borrow.Author.Tests.{eq-eqb, ne-eqb, eqb-true, eqb-false, ltb-true, ltb-false}
-use borrow.Rule.Slice.PartMut.{midOf, postOf, putMid, mid-len, put-same}
+use borrow.Rule.Slice.PartMut.{midOf, putMid}
 use lib.Dec.{eqb, ltb, leb}
-use lib.ListN.{length, getD, set, take}
+use lib.ListN.{length, getD, set}
 use lib.Pow.{pow-pos, pow-mono, split, low}
-use lib.Seq.{set-append-left, length-take-le}
 use Rattle.laws.specs.Lists.{putsAt}
 use Rattle.laws.specs.Bits.{bit, has}
 use Rattle.laws.proofs.Bits.{bit-high}
 use Rattle.laws.proofs.Cases.{by-less, by-equal, by-test, cond-yes, cond-no, cond-ap, cond-both, or-split}
-use Rattle.laws.proofs.Puts.{putsAt-run, putsAt-ext, length-putsAt}
+use Rattle.laws.proofs.Puts.{putsAt-ext, puts-one, puts-halves}
+use Rattle.laws.proofs.Parts.{puts-part}
 use Rattle.sheet.specs.Job.{isInput}
 use Rattle.reduction.specs.Walk.{lowOf, highOf, child}
 use Rattle.reduction.specs.Descent.{descend, descent}
 use Rattle.reduction.proofs.DescentSteps.{met-more, met-twice, descend-bottom, descend-stop, descend-input, descend-forced, descend-other}
 use Rattle.cutting.specs.RowWalks.{rowFrom, nodeRow}
-
--- one store; the stores of two halves
-pub puts-one : (f : ℕ → ℕ) (n x v : ℕ) (l : List ℕ) → n ≡ 1 → v ≡ f 0 → set l x v ≡ putsAt x n f l
-unfolding putsAt
-puts-one f n x v l en ev = ap₂ (λ (k u : ℕ). set l k u) (sym (add-zero x)) ev ∙ ap (λ (k : ℕ). putsAt x k f l) (sym en)
-
-pub puts-halves : (f g h : ℕ → ℕ) (x half size : ℕ) (l s s′ : List ℕ) → half + half ≡ size → s ≡ putsAt x half f l → s′ ≡ putsAt (x + half) half g s
-    → ((i : ℕ) → i < half → f i ≡ h i) → ((i : ℕ) → i < half → g i ≡ h (half + i)) → s′ ≡ putsAt x size h l
-puts-halves f g h x half size l s s′ e es es′ first second =
-    es′ ∙ putsAt-run h g x half half l s (es ∙ putsAt-ext f h x half l first) second ∙ ap (λ (k : ℕ). putsAt x k h l) e
-
--- stores into the part of a list from a on
-set-append-add : (xs ys : List ℕ) (n v : ℕ) → set (xs ++ ys) (length xs + n) v ≡ xs ++ set ys n v
-set-append-add [] ys n v = ap (λ (k : ℕ). set ys k v) (zero-add n)
-set-append-add (x ∷ xs) ys n v =
-    ap (λ (k : ℕ). set (x ∷ (xs ++ ys)) k v) (suc-add (length xs) n) ∙ ap (λ (l : List ℕ). x ∷ l) (set-append-add xs ys n v)
-
-set-part : (a k n v : ℕ) (l ys : List ℕ) → a ≤ length l → n < length ys → putMid a k l (set ys n v) ≡ set (putMid a k l ys) (a + n) v
-set-part a k n v l ys h b =
-    ap (λ (z : List ℕ). take a l ++ z) (sym (set-append-left ys (postOf a k l) n v b))
-    ∙ sym (set-append-add (take a l) (ys ++ postOf a k l) n v)
-    ∙ ap (λ (z : ℕ). set (putMid a k l ys) (z + n) v) (length-take-le a l h)
-
-pub puts-part : (f : ℕ → ℕ) (a n : ℕ) (l : List ℕ) → a + n ≤ length l
-    → putMid a (length l - a) l (putsAt 0 n f (midOf a (length l - a) l)) ≡ putsAt a n f l
-unfolding putsAt
-puts-part f a zero l h = put-same a (length l - a) l
-puts-part f a (suc n) l h =
-    let k = length l - a in
-    let part = midOf a k l in
-    let long = length-putsAt f 0 n part in
-    let have = mid-len a (length l) l (omega arith) in
-    ap (λ (z : ℕ). putMid a k l (set (putsAt 0 n f part) z (f n))) (zero-add n)
-    ∙ set-part a k n (f n) l (putsAt 0 n f part) (omega arith) (omega (arith, long, have))
-    ∙ ap (λ (s : List ℕ). set s (a + n) (f n)) (puts-part f a n l (omega arith))
 
 -- a block of 2^count rows from x on, a multiple of 2^count, and its halves
 module _ (x count : ℕ) (some : count ≡ 0 → ⊥) where

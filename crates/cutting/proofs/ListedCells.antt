@@ -12,6 +12,7 @@ use lib.Seq.{drop-drop}
 use borrow.Author.Tests.{lt-ltb}
 use Rattle.laws.specs.Tests.{every, sum}
 use Rattle.laws.proofs.Cases.{and-split, and-join, cond-yes}
+use Rattle.laws.proofs.Counts.{sum-front}
 use Rattle.sheet.specs.Job.{Job, t}
 use Rattle.sheet.specs.Refusals.{sheetRefusal}
 use Rattle.sheet.specs.Table.{table}
@@ -26,7 +27,7 @@ use Rattle.cutting.specs.Listing.{cellLines}
 use Rattle.stored.specs.declared.CellPlace.{CellPlace}
 use Rattle.stored.specs.Places.{variablesOf, heightAbove, cellPlace}
 use Rattle.cutting.proofs.RowLimit.{ins-outs}
-use Rattle.cutting.proofs.StoredCuts.{storedBetween, between-ins, between-outs, record-count, cuts-fall, cuts-first, cell-at, cell-count, rows-before, sum-front}
+use Rattle.cutting.proofs.StoredCuts.{storedBetween, between-ins, between-outs, record-count, cuts-fall, cuts-first, cell-at, cell-count, rows-before}
 use Rattle.cutting.proofs.MadeCascade.{made-cuts, made-count, made-formed}
 use Rattle.stored.proofs.CellPlaces.{between, between-same}
 

@@ -13,7 +13,7 @@ use borrow.Author.Tests.{eq-eqb, ne-eqb}
 use Rattle.laws.specs.Tests.{sum}
 use Rattle.laws.specs.Bits.{flag}
 use Rattle.laws.proofs.Cases.{by-test, cond-yes, cond-no}
-use Rattle.laws.proofs.Counts.{sum-ext}
+use Rattle.laws.proofs.Counts.{sum-ext, sum-front}
 use Rattle.laws.proofs.Lists.{length-tab, getD-tab}
 use Rattle.sheet.specs.Job.{Job, t, ins, outs, varAt, isInput}
 use Rattle.reduction.proofs.Children.{ins-input, ins-output, outs-input, outs-output}
@@ -313,10 +313,6 @@ module _ (j : Job) (ws l : List ℕ) (c : CutList (t j) l) where
   rows-before k h =
       sum-ext (λ i. rows (sizeOf (cellAt (stored j ws l) i))) (λ i. rows (cellBetween j ws (getD l i 0) (getD l (suc i) 0))) k
       (λ i p. ap rows (cell-size i (omega arith)))
-
-pub sum-front : (f : ℕ → ℕ) (n : ℕ) → sum (suc n) f ≡ f 0 + sum n (λ i. f (suc i))
-sum-front f zero = omega arith
-sum-front f (suc n) = let e = sum-front f n in omega arith
 
 module _ (j : Job) (f : List ℕ) (ls : List (List ℕ)) (ws : List ℕ) where
   cells-length : (a b : ℕ) → length (cellRows j f ls ws a b) ≡ rows (cellBetween j ws a b)

@@ -90,3 +90,8 @@ sum-at f n i h = sum-fewer f (suc i) n h
 pub sum-fixed : (n c : ℕ) → sum n (λ i. c) ≡ n * c
 sum-fixed zero c = sym (zero-mul c)
 sum-fixed (suc n) c = omega (arith, sum-fixed n c, suc-mul n c)
+
+-- from the front
+pub sum-front : (f : ℕ → ℕ) (n : ℕ) → sum (suc n) f ≡ f 0 + sum n (λ i. f (suc i))
+sum-front f zero = omega arith
+sum-front f (suc n) = let e = sum-front f n in omega arith

@@ -42,6 +42,10 @@ module _ {A : Type 0} (f : ℕ → A) where
   pub filled-kept : (n : ℕ) (l : List A) (d : A) → getD l n d ≡ f n → n < length l → filled n f l ≡ filled (n + 1) f l
   filled-kept n l d e h = sym (set-getD (filled n f l) n d) ∙ filled-more n l (getD (filled n f l) n d) (getD-filled-next n l d ∙ e) h
 
+-- a list stored at the front of another, and taken from there
+pub written-front : {A : Type 0} (vs l : List A) → take (length vs) (written l 0 vs) ≡ vs
+written-front vs l = take-at vs (drop (0 + length vs) l) (length vs) refl
+
 -- `written` is `lib.Seq.sets` where the part lies within the list
 pub written-sets : {A : Type 0} (l : List A) (i : ℕ) (vs : List A) → i + length vs ≤ length l → written l i vs ≡ sets l i vs
 written-sets l i vs h = sym (sets-eq vs l i h)

@@ -10,3 +10,5 @@ pub mod Puts
 pub mod Bits
 pub mod Powers
 pub mod Masks
+pub mod Parts
+pub mod DifferentWords

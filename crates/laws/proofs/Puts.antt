@@ -8,10 +8,10 @@ use native.Mathlib.Numerals.{add-one}
 use native.Mathlib.Omega.{arith}
 use lib.ListN.{length, getD, set, length-set, replicate, length-replicate, getD-replicate}
 use lib.Seq.{getD-set-same, getD-set-other, set-getD, sets, ext-getD}
-use Rattle.laws.specs.Lists.{tab, rect, filled, puts, putsAt}
+use Rattle.laws.specs.Lists.{tab, rect, filled, written, puts, putsAt}
 use Rattle.laws.proofs.Cases.{last-or-below, by-less}
-use Rattle.laws.proofs.Lists.{length-tab, length-rect, tab-ext}
-use Rattle.laws.proofs.Filled.{filled-more}
+use Rattle.laws.proofs.Lists.{length-tab, length-rect, tab-ext, tab-of}
+use Rattle.laws.proofs.Filled.{filled-more, written-sets}
 
 module _ {A : Type 0} (f : ℕ → A) where
   pub puts-none : (l : List A) → puts 0 f l ≡ l
@@ -182,3 +182,21 @@ pub sets-snoc : (l a : List ℕ) (n v : ℕ) → n ≡ length a → set (sets l 
 sets-snoc l a n v e =
     let z : 0 + length a ≡ n = omega arith in
     ap (λ (k : ℕ). set (sets l 0 a) k v) (sym z) ∙ sym (sets-append a (v ∷ []) l 0)
+
+-- one store; the stores of two halves
+pub puts-one : (f : ℕ → ℕ) (n x v : ℕ) (l : List ℕ) → n ≡ 1 → v ≡ f 0 → set l x v ≡ putsAt x n f l
+unfolding putsAt
+puts-one f n x v l en ev = ap₂ (λ (k u : ℕ). set l k u) (sym (add-zero x)) ev ∙ ap (λ (k : ℕ). putsAt x k f l) (sym en)
+
+pub puts-halves : (f g h : ℕ → ℕ) (x half size : ℕ) (l s s′ : List ℕ) → half + half ≡ size → s ≡ putsAt x half f l → s′ ≡ putsAt (x + half) half g s
+    → ((i : ℕ) → i < half → f i ≡ h i) → ((i : ℕ) → i < half → g i ≡ h (half + i)) → s′ ≡ putsAt x size h l
+puts-halves f g h x half size l s s′ e es es′ first second =
+    es′ ∙ putsAt-run h g x half half l s (es ∙ putsAt-ext f h x half l first) second ∙ ap (λ (k : ℕ). putsAt x k h l) e
+
+-- all elements of a list stored one after another: from place i on, and at the front
+pub copied-at : (l : List ℕ) (i : ℕ) (vs : List ℕ) → i + length vs ≤ length l → putsAt i (length vs) (λ k. getD vs k 0) l ≡ written l i vs
+copied-at l i vs h = putsAt-sets (λ k. getD vs k 0) i (length vs) l ∙ ap (sets l i) (tab-of 0 vs) ∙ sym (written-sets l i vs h)
+
+pub copied : (vs l : List ℕ) → length vs ≤ length l → puts (length vs) (λ i. getD vs i 0) l ≡ written l 0 vs
+copied vs l fits =
+    puts-sets (λ i. getD vs i 0) (length vs) l ∙ ap (sets l 0) (tab-of 0 vs) ∙ sym (written-sets l 0 vs (omega (arith, fits)))

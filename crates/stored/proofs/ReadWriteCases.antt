@@ -6,15 +6,15 @@ use mathlib.Core.List.{List, []}
 use Prim.Native.Nat.{ℕ, _+_, _*_, _<_, _≤_}
 use native.Mathlib.Omega.{arith}
 use lib.Dec.{eqb}
-use lib.ListN.{length, getD, take, drop, replicate, length-replicate}
-use lib.Seq.{sets, length-sets, take-at}
+use lib.ListN.{length, getD, take, replicate, length-replicate}
+use lib.Seq.{sets, length-sets}
 use borrow.Author.Tests.{lt-ltb, le-ltb}
 use Rattle.laws.specs.Lists.{tab, puts, written}
 use Rattle.laws.specs.Tests.{every}
 use Rattle.laws.proofs.Cases.{by-test, by-less, and-split, no-test}
-use Rattle.laws.proofs.Lists.{length-tab, getD-tab, tab-of}
-use Rattle.laws.proofs.Filled.{written-sets}
-use Rattle.laws.proofs.Puts.{puts-ext, puts-sets}
+use Rattle.laws.proofs.Lists.{length-tab, getD-tab}
+use Rattle.laws.proofs.Filled.{written-sets, written-front}
+use Rattle.laws.proofs.Puts.{puts-ext}
 use Rattle.stored.specs.Stored.{recordCount, variable, cutByte, railByte, recordsFormed, cellCount, rowCount, rowsFormed, wellFormed}
 use Rattle.stored.specs.ReadWrite.{Record, StoredRecords, wasRead, notRead, Written, noRecord, recordAt, recordBytes, cascadeOf, recordsOf, structureOf, read, writtenAs, writeBytes}
 use Rattle.stored.proofs.StoredParts.{records-have}
@@ -61,15 +61,7 @@ unfolding read
 read-other R bytes e = rw e refl
 
 -- a list stored at the front of another, and taken from there
-pub written-front : (vs l : List ℕ) → take (length vs) (written l 0 vs) ≡ vs
-written-front vs l = take-at vs (drop (0 + length vs) l) (length vs) refl
-
 module _ (vs l : List ℕ) (fits : length vs ≤ length l) where
-  pub copied : puts (length vs) (λ i. getD vs i 0) l ≡ written l 0 vs
-  copied =
-      let h : 0 + length vs ≤ length l = omega arith in
-      puts-sets (λ i. getD vs i 0) (length vs) l ∙ ap (sets l 0) (tab-of 0 vs) ∙ sym (written-sets l 0 vs h)
-
   pub stored-front : take (length vs) (sets l 0 vs) ≡ vs
   stored-front =
       let h : 0 + length vs ≤ length l = omega arith in

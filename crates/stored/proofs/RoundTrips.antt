@@ -10,11 +10,12 @@ use Rattle.laws.specs.Lists.{tab, written}
 use Rattle.laws.proofs.Cases.{by-test}
 use Rattle.laws.proofs.Lists.{length-tab, tab-ext, tab-of}
 use Rattle.laws.proofs.Puts.{getD-puts}
+use Rattle.laws.proofs.Filled.{written-front}
 use Rattle.stored.specs.Stored.{recordCount, wellFormed}
 use Rattle.stored.specs.ReadWrite.{Record, Cascade, ReadAnswer, wasRead, notRead, Written, noRecord, recordAt, recordBytes, cascadeOf, recordsOf, structureOf, readAs, read, writtenAs, writeBytes, write}
 use Rattle.stored.proofs.StoredParts.{records-have}
 use Rattle.stored.proofs.RecordBytes.{records-kept, bytes-kept}
-use Rattle.stored.proofs.ReadWriteCases.{formed-records, read-formed, read-other, written-front, write-formed, write-answers}
+use Rattle.stored.proofs.ReadWriteCases.{formed-records, read-formed, read-other, write-formed, write-answers}
 
 isRead : ReadAnswer → Bool
 isRead (notRead n) = false
