@@ -92,65 +92,43 @@ fn numbers(job: &Job) -> [usize; 4] {
     ]
 }
 
+/// Calls an exported function on a job and what else it is lent.
+macro_rules! call {
+    ($function:ident, $job:expr $(, $lent:expr)*) => {{
+        let [n, m, k, l] = numbers($job);
+        let (order, sheet) = (&$job.order, &$job.sheet);
+        // SAFETY: pointers and lengths are of slices of their own, of the lengths that the function takes, and it is proved to stay
+        // within them; order and sheet are only read.
+        unsafe {
+            exported::$function(
+                n,
+                m,
+                k,
+                l,
+                order.as_ptr(),
+                order.len(),
+                sheet.as_ptr(),
+                sheet.len(),
+                $($lent),*
+            )
+        }
+    }};
+}
+
 /// The least of refusals 1 to 6; 0 where there is none.
 pub fn sheet_refusal(job: &Job) -> u8 {
-    let [n, m, k, l] = numbers(job);
-    let (order, sheet) = (&job.order, &job.sheet);
-    // SAFETY: pointers and lengths are of slices that are only read, and the function is proved to stay within them.
-    unsafe {
-        exported::cascade_sheet_refusal(
-            n,
-            m,
-            k,
-            l,
-            order.as_ptr(),
-            order.len(),
-            sheet.as_ptr(),
-            sheet.len(),
-        )
-    }
+    call!(cascade_sheet_refusal, job)
 }
 
 /// The same; where it is 0 the table is written.
 pub fn sheet_table(job: &Job, table: &mut [u8; TABLE_BYTES]) -> u8 {
-    let [n, m, k, l] = numbers(job);
-    let (order, sheet) = (&job.order, &job.sheet);
-    // SAFETY: as above; the table is a slice of its own, of the length that the function takes.
-    unsafe {
-        exported::cascade_sheet_table(
-            n,
-            m,
-            k,
-            l,
-            order.as_ptr(),
-            order.len(),
-            sheet.as_ptr(),
-            sheet.len(),
-            table,
-        )
-    }
+    call!(cascade_sheet_table, job, table)
 }
 
 /// The refusal, or the number of nodes; where nothing is refused the final widths at heights 0 to t - 1 and three words
 /// a node, height, low and high, are written to the front of the two arrays.
 pub fn reduce(job: &Job, widths: &mut [u16; WIDTHS], words: &mut [u16; NODE_WORDS]) -> Reduction {
-    let [n, m, k, l] = numbers(job);
-    let (order, sheet) = (&job.order, &job.sheet);
-    // SAFETY: as above; widths and words are slices of their own, of the lengths that the function takes.
-    unsafe {
-        exported::cascade_reduce(
-            n,
-            m,
-            k,
-            l,
-            order.as_ptr(),
-            order.len(),
-            sheet.as_ptr(),
-            sheet.len(),
-            widths,
-            words,
-        )
-    }
+    call!(cascade_reduce, job, widths, words)
 }
 
 /// The whole compiler: where nothing is refused three words a node, the stored records and the rows are written to the front of
@@ -162,28 +140,17 @@ pub fn compile(
     rows: &mut [u8],
     widths: &mut [u16; WIDTHS],
 ) -> Totals {
-    let [n, m, k, l] = numbers(job);
-    let (order, sheet) = (&job.order, &job.sheet);
-    // SAFETY: as above; the four memories are slices of their own.
-    unsafe {
-        exported::cascade_compile(
-            n,
-            m,
-            k,
-            l,
-            order.as_ptr(),
-            order.len(),
-            sheet.as_ptr(),
-            sheet.len(),
-            nodes.as_mut_ptr(),
-            nodes.len(),
-            records.as_mut_ptr(),
-            records.len(),
-            rows.as_mut_ptr(),
-            rows.len(),
-            widths,
-        )
-    }
+    call!(
+        cascade_compile,
+        job,
+        nodes.as_mut_ptr(),
+        nodes.len(),
+        records.as_mut_ptr(),
+        records.len(),
+        rows.as_mut_ptr(),
+        rows.len(),
+        widths
+    )
 }
 
 /// Jobs with numbers of any size, and with orders and sheets of any length and contents, made of a good one.
