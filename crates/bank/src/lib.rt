@@ -1,4 +1,5 @@
-// The bank layer: admission, latch and step, on a bank and a scan state by value and a lent row memory.
+// The bank layer: admission, latch and step, on a bank and a scan state by value and a lent row memory; latch and step also on a scan
+// state that is lent.
 mod admitting;
 mod formed;
 mod latching;
@@ -94,9 +95,35 @@ pub fn latch(bank: Bank, scan: Scan, words: [u16; 8]) -> Latched
     latching::latch_words(bank, scan, words)
 }
 
+// The same on a scan state that is lent.
+pub fn latch_lent(bank: Bank, scan: &mut Scan, words: [u16; 8]) -> u8
+    ensures { λ r.
+        ⌜ ((rows : List ℕ) → givenNumber r bank (now (scan .exit)) rows
+        ≡ latch (stateOf bank (now (scan .entry)) rows) words) ⌝ }
+{
+    let before = *scan;
+    let out = latch(bank, before, words);
+    let after = out.scan;
+    *scan = after;
+    out.refusal
+}
+
 // Moves the scan on by one read of the rows: 12, then Idle, then 11, else the block and cell that were read.
 pub fn step(bank: Bank, scan: Scan, rows: &[u8]) -> Stepped
     ensures { λ r. ⌜ givenAnswer (r .answer) bank (r .scan) (now (rows .entry)) ≡ step (stateOf bank scan (now (rows .entry))) ⌝ }
 {
     stepping::step_once(bank, scan, rows)
+}
+
+// The same on a scan state that is lent.
+pub fn step_lent(bank: Bank, scan: &mut Scan, rows: &[u8]) -> StepAnswer
+    ensures { λ r.
+        ⌜ givenAnswer r bank (now (scan .exit)) (now (rows .entry))
+        ≡ step (stateOf bank (now (scan .entry)) (now (rows .entry))) ⌝ }
+{
+    let before = *scan;
+    let out = step(bank, before, rows);
+    let after = out.scan;
+    *scan = after;
+    out.answer
 }
