@@ -1,0 +1,2 @@
+-- Definitions of the table of node records.
+pub mod Nodes

@@ -1,0 +1,61 @@
+// The compiler over a node table of node records. It makes them as cutting's compiler does, in words, three a node.
+mod nodes;
+mod words;
+
+ghost use mathlib.Core.Path.{_≡_};
+ghost use lib.ListN.{getD};
+ghost use Rattle.sheet.specs.Job.{job};
+ghost use Rattle.cutting.specs.Compile.{compile};
+ghost use Rattle.cutting.specs.Outcome.{answered};
+ghost use Rattle.node_table.specs.Nodes.{noNode};
+use crate::nodes::fill;
+use crate::words::compile_words;
+use cutting::Compilation;
+use reduction::Node;
+
+// The compiler over a table of node records: as cutting's, which has three words a node.
+pub fn compile(
+    n: usize,
+    m: usize,
+    k: usize,
+    l: usize,
+    order: &[u8],
+    sheet: &[u8],
+    nodes: &mut [Node],
+    records: &mut [u8],
+    rows: &mut [u8],
+) -> Compilation
+    ensures { λ r.
+        ⌜ (let c = compile (now (nodes .entry)) (now (records .entry)) (now (rows .entry)) (job n m k l (now (order .entry))) (now (sheet .entry)) in
+        (r ≡ answered (c .answer)) × (now (nodes .exit) ≡ c .nodes) × (now (records .exit) ≡ c .records) × (now (rows .exit) ≡ c .rows)) ⌝ }
+{
+    let mut words = [0u16; 30720];
+    let r = compile_words(
+        n,
+        m,
+        k,
+        l,
+        order,
+        sheet,
+        nodes.len(),
+        &mut words,
+        records,
+        rows,
+    );
+    fill(&words, nodes, r.nodes as usize);
+    r
+}
+
+// One node of a table; past its end, zeros.
+pub fn read_node(nodes: &[Node], i: usize) -> Node
+    ensures { λ r. ⌜ r ≡ getD (now (nodes .entry)) i noNode ⌝ }
+{
+    if i < nodes.len() {
+        return nodes[i];
+    }
+    Node {
+        height: 0,
+        low: 0,
+        high: 0,
+    }
+}
