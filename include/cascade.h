@@ -1,4 +1,5 @@
-/* The proved compiler for C: a job and its logic sheet in, a cascade out.
+/* The proved compiler and stepper for C: a job and its logic sheet in, a cascade out; cascades held in a bank and
+ * scanned, one read a call.
  *
  * Link with target/staticlib/libpanel.a (made by `rt staticlib panel`).
  *
@@ -83,6 +84,58 @@ cascade_reduction cascade_reduce(size_t n, size_t m, size_t k, size_t l,
                                  const uint8_t *sheet, size_t sheet_length,
                                  uint16_t widths[CASCADE_WIDTHS],
                                  uint16_t words[CASCADE_NODE_WORDS]);
+
+/* The bank holds up to 8 blocks (a block is the records and rows of one cascade), and the scan state says how far a scan
+ * has come and which outputs are set. Both are bytes that the caller keeps and lends to each call, with the row memory;
+ * nobody else may write them between calls. Whatever they hold, a call reads and writes nothing but what it is lent: every
+ * call but the first answers 12 where the bank holds an S out of range, more than 8 blocks, a block that is not well formed,
+ * more cells than S or over 32,768 rows, or where a scan runs and its block, cell or rail word is none of those held.
+ *
+ *   bank   0-1  S, low byte first     2  blocks held      3-10  the number of records of each place
+ *          11   the records, 80 bytes a place
+ *   scan   0    not 0 while a scan has reads left         1, 2  block and cell of the next read
+ *          3-4  its rail word         5-20  the latched words, two bytes each, low byte first
+ *          21   the outputs, 8 bytes a place: 0 or 1 where set, else CASCADE_NOT_SET */
+#define CASCADE_PLACES 8
+#define CASCADE_BANK_BYTES 651
+#define CASCADE_SCAN_BYTES 85
+#define CASCADE_NOT_SET 2
+#define CASCADE_OUTPUT(scan, place, output) ((scan)[21 + 8 * (place) + (output)])
+
+/* A new bank with the scan limit s, 1 to 255, and its fresh scan state. Answers 0, or 1 where s is out of range, and then
+ * both are as they were. */
+uint8_t cascade_bank_new(size_t s, uint8_t bank[CASCADE_BANK_BYTES], uint8_t scan[CASCADE_SCAN_BYTES]);
+
+/* Admits a block: copies its records into the bank and appends its rows to the row memory. All set outputs are cleared
+ * and no scan runs. Answers 0, or
+ *   12 bank, scan state or block not well formed    13 8 blocks are held
+ *   14 the cells of all blocks would exceed S       11 row memory short, or over 32,768 rows in all
+ * and then nothing changes. The first that holds in this order is answered. */
+uint8_t cascade_admit(uint8_t bank[CASCADE_BANK_BYTES], uint8_t scan[CASCADE_SCAN_BYTES],
+                      const uint8_t *records, size_t records_length,
+                      const uint8_t *block_rows, size_t block_rows_length,
+                      uint8_t *rows, size_t rows_length);
+
+/* Latches eight words, one for each place, clears all set outputs and starts a scan. Bits above 11, and words for places
+ * not held, have no effect. Answers 0, or 12 and nothing changes. */
+uint8_t cascade_latch(const uint8_t bank[CASCADE_BANK_BYTES], uint8_t scan[CASCADE_SCAN_BYTES],
+                      const uint16_t words[CASCADE_PLACES]);
+
+/* What a step answers. */
+#define CASCADE_IDLE 0    /* no scan, or all cells are read */
+#define CASCADE_WENT 1    /* a cell was read: block and cell, counted from 0 */
+#define CASCADE_REFUSED 2 /* refusal is 12, or 11 where the row memory is shorter than all rows held */
+typedef struct {
+    uint8_t kind;
+    uint8_t block;
+    uint8_t cell;
+    uint8_t refusal;
+} cascade_step_answer;
+
+/* Moves the scan on by one read of the row memory: the outputs of the cell that is read become set, and no others. Unless
+ * it went nothing changes. */
+cascade_step_answer cascade_step(const uint8_t bank[CASCADE_BANK_BYTES], uint8_t scan[CASCADE_SCAN_BYTES],
+                                 const uint8_t *rows, size_t rows_length);
 
 #ifdef __cplusplus
 }

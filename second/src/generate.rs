@@ -12,10 +12,10 @@ mod wide;
 pub use blocks::{block, damage, StoredBlock};
 pub use calls::calls;
 pub use damaged::Fault;
+pub use random::Random;
 
 use crate::job::{Job, Lent, Node};
 use plain::Free;
-use random::Random;
 use sheet::Standing;
 
 /// A kind of job. In all but `SmallDamaged` job and sheet are in order (no refusal 1 to 6).

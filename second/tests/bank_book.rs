@@ -34,11 +34,17 @@ impl Panel {
                 rows,
             )),
             Call::Latch(words) => plain(latch(&self.bank, &mut self.scan, *words)),
-            Call::Step => match step(&self.bank, &mut self.scan, &self.rows) {
-                Step::Went { block, cell } => Said::Went { block, cell },
-                Step::Idle => Said::Idle,
-                Step::Refused(number) => Said::Refused(number),
-            },
+            Call::Step => {
+                let mut scan = self.scan.clone();
+                let quick = fast::step::step(&self.bank, &mut scan, &self.rows);
+                let answer = step(&self.bank, &mut self.scan, &self.rows);
+                assert_eq!((quick, scan), (answer, self.scan.clone()));
+                match answer {
+                    Step::Went { block, cell } => Said::Went { block, cell },
+                    Step::Idle => Said::Idle,
+                    Step::Refused(number) => Said::Refused(number),
+                }
+            }
         }
     }
 

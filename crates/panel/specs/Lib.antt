@@ -1,2 +1,3 @@
 -- The panel's definitions.
 pub mod Exported
+pub mod StateBytes

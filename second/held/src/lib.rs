@@ -7,6 +7,10 @@ pub const WIDTHS: usize = 20;
 /// The words of a node table: 10,240 nodes of height, low and high.
 pub const NODE_WORDS: usize = 30_720;
 
+/// The bytes of a bank and of a scan state.
+pub const BANK_BYTES: usize = 651;
+pub const SCAN_BYTES: usize = 85;
+
 /// The least of refusals 1 to 7 and no nodes, or 0 and the number of nodes.
 #[repr(C)]
 #[derive(Clone, Copy, Debug, PartialEq, Eq)]
@@ -24,6 +28,16 @@ pub struct Totals {
     pub cells: u8,
     pub rows: u16,
     pub bits: u32,
+}
+
+/// What a step answers: kind 1 with block and cell, 0 for Idle, 2 with the number of the refusal.
+#[repr(C)]
+#[derive(Clone, Copy, Debug, PartialEq, Eq)]
+pub struct StepNumbers {
+    pub kind: u8,
+    pub block: u8,
+    pub cell: u8,
+    pub refusal: u8,
 }
 
 mod exported {
@@ -78,8 +92,38 @@ mod exported {
             rows_length: usize,
             widths: *mut [u16; super::WIDTHS],
         ) -> super::Totals;
+        pub fn cascade_bank_new(
+            limit: usize,
+            bank: *mut [u8; super::BANK_BYTES],
+            scan: *mut [u8; super::SCAN_BYTES],
+        ) -> u8;
+        pub fn cascade_admit(
+            bank: *mut [u8; super::BANK_BYTES],
+            scan: *mut [u8; super::SCAN_BYTES],
+            records: *const u8,
+            records_length: usize,
+            bytes: *const u8,
+            bytes_length: usize,
+            rows: *mut u8,
+            rows_length: usize,
+        ) -> u8;
+        pub fn cascade_latch(
+            bank: *const [u8; super::BANK_BYTES],
+            scan: *mut [u8; super::SCAN_BYTES],
+            words: *const [u16; 8],
+        ) -> u8;
+        pub fn cascade_step(
+            bank: *const [u8; super::BANK_BYTES],
+            scan: *mut [u8; super::SCAN_BYTES],
+            rows: *const u8,
+            rows_length: usize,
+        ) -> super::StepNumbers;
     }
 }
+
+mod state;
+
+pub use state::{bank_bytes, scan_bytes, State};
 
 use second::job::Job;
 

@@ -6,6 +6,7 @@ pub mod cut;
 pub mod graph;
 pub mod reduce;
 pub mod sheet;
+pub mod step;
 
 use crate::job::{Answer, Job, Lent};
 

@@ -1,9 +1,10 @@
 //! Times the proved layers against `fast`, in one run: the same jobs, both built for release. Argument: jobs for each family.
 
-use held::{compile, reduce, sheet_refusal, sheet_table, NODE_WORDS, TABLE_BYTES, WIDTHS};
+use held::{compile, reduce, sheet_refusal, sheet_table, State, NODE_WORDS, TABLE_BYTES, WIDTHS};
+use second::bank::{self, Bank, Scan};
 use second::fast::{self, read, Compiler};
-use second::generate::{job, Family};
-use second::job::{Job, Lent, Node};
+use second::generate::{block, job, Family, StoredBlock};
+use second::job::{Answer, Job, Lent, Node};
 use second::plain;
 use std::process::ExitCode;
 use std::time::Instant;
@@ -136,6 +137,105 @@ fn compiled(name: &str, jobs: &[Job]) {
     );
 }
 
+/// Nanoseconds a call, the least of five runs of as many calls as `run` says it makes.
+fn each(mut run: impl FnMut() -> usize) -> f64 {
+    (0..5)
+        .map(|_| {
+            let began = Instant::now();
+            let calls = run();
+            began.elapsed().as_secs_f64() * 1e9 / calls as f64
+        })
+        .fold(f64::MAX, f64::min)
+}
+
+/// The blocks in a bank of the second one, with the rows they take; the proved one's state is made of it.
+fn admitted(blocks: &[StoredBlock]) -> (Bank, Scan, Vec<u8>) {
+    let (mut bank, mut scan) = bank::new_bank(255).expect("S in range");
+    let mut rows = vec![0; 32_768];
+    for (records, bytes) in blocks {
+        bank::admit(&mut bank, &mut scan, &mut rows, records, bytes).expect("room");
+    }
+    (bank, scan, rows)
+}
+
+/// Whole scans, each latched anew, and steps with no scan: these make the test for 12 and read nothing.
+fn steps(name: &str, blocks: &[StoredBlock]) {
+    const SCANS: usize = 2_000;
+    let (bank, mut scan, rows) = admitted(blocks);
+    let mut state = State::of(&bank, &scan, rows.clone());
+    let idle = each(|| {
+        for _ in 0..SCANS {
+            std::hint::black_box(state.step());
+        }
+        SCANS
+    });
+    let idle_rival = each(|| {
+        for _ in 0..SCANS {
+            std::hint::black_box(fast::step::step(&bank, &mut scan, &rows));
+        }
+        SCANS
+    });
+    let words = [0x5A5u16; 8];
+    bank::latch(&bank, &mut scan, words).expect("formed");
+    state.latch(&words);
+    let (start, begun) = (scan.clone(), state.scan);
+    let mut cells = 0;
+    let proved = each(|| {
+        let mut made = 0;
+        for _ in 0..SCANS {
+            state.scan = begun;
+            while state.step().kind == 1 {
+                made += 1;
+            }
+        }
+        cells = made / SCANS;
+        made + SCANS
+    });
+    let rival = each(|| {
+        let mut made = 0;
+        for _ in 0..SCANS {
+            scan = start.clone();
+            while let bank::Step::Went { .. } = fast::step::step(&bank, &mut scan, &rows) {
+                made += 1;
+            }
+        }
+        made + SCANS
+    });
+    println!(
+        "| {name} | {} | {cells} | {proved:.0} | {rival:.0} | {:.2} | {idle:.0} | {idle_rival:.0} | {:.2} |",
+        blocks.len(),
+        proved / rival,
+        idle / idle_rival
+    );
+}
+
+/// Blocks that the compiler writes for table 1, and hand-made ones of many records.
+fn banks() -> Vec<(&'static str, Vec<StoredBlock>)> {
+    let mut lent = Lent {
+        nodes: vec![Node::default(); 10_240],
+        records: vec![0; 80],
+        rows: vec![0; 32_768],
+    };
+    let job = second::cases::a();
+    let Answer::Accepted(totals) = fast::compile(&job, &mut lent) else {
+        unreachable!("case A is accepted")
+    };
+    lent.records.truncate(4 * job.order.len());
+    lent.rows.truncate(totals.rows);
+    let table1 = (lent.records, lent.rows);
+    let long: Vec<StoredBlock> = (0..)
+        .map(|i| block(1, i))
+        .filter(|(records, rows)| records.len() == 80 && rows.len() < 4_000)
+        .take(8)
+        .collect();
+    vec![
+        ("table 1", vec![table1.clone()]),
+        ("table 1", vec![table1; 8]),
+        ("20 records", long[..1].to_vec()),
+        ("20 records", long),
+    ]
+}
+
 fn main() -> ExitCode {
     let count = match std::env::args().nth(1).map(|text| text.parse::<u64>()) {
         None => 200,
@@ -182,6 +282,15 @@ fn main() -> ExitCode {
     println!("|---|---|---|---|---|---|---|---|");
     for (name, jobs) in &rows {
         compiled(name, jobs);
+    }
+    println!();
+    println!(
+        "Nanoseconds a step, over whole scans with the step to Idle; then of a step with no scan."
+    );
+    println!("| blocks of | blocks | cells | proved | fast | ratio | proved, no scan | fast, no scan | ratio |");
+    println!("|---|---|---|---|---|---|---|---|---|");
+    for (name, blocks) in banks() {
+        steps(name, &blocks);
     }
     ExitCode::SUCCESS
 }

@@ -1,0 +1,3 @@
+-- The panel's laws.
+pub mod StateLaws
+pub mod Lent

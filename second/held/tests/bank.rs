@@ -1,0 +1,325 @@
+//! The proved bank, through its exported functions, against the second bank and its book: every answer, every output and every byte
+//! of bank, scan state and row memory after each call.
+
+use held::{State, StepNumbers};
+use second::bank::{self, Bank, Scan, Step, NOT_SET};
+use second::book::{Book, Call, Outputs, Said};
+use second::generate::{block, calls, damage, job, Family, Random, StoredBlock};
+use second::job::{Answer, Lent, Node};
+use second::{fast, stored};
+use std::collections::BTreeMap;
+
+const SEED: u64 = 9341;
+
+/// Hand-made blocks, and one that the compiler wrote.
+fn blocks(index: u64) -> Vec<StoredBlock> {
+    let mut blocks: Vec<_> = (0..3).map(|k| block(SEED, index * 3 + k)).collect();
+    let family = [Family::SmallOrders, Family::SmallManyFree, Family::Medium][index as usize % 3];
+    let job = job(family, SEED, index);
+    let mut lent = Lent {
+        nodes: vec![Node::default(); 10_240],
+        records: vec![0; 80],
+        rows: vec![0; 32_768],
+    };
+    if let Answer::Accepted(totals) = fast::compile(&job, &mut lent) {
+        lent.records.truncate(4 * job.order.len());
+        lent.rows.truncate(totals.rows);
+        blocks.push((lent.records, lent.rows));
+    }
+    blocks
+}
+
+/// The second bank with its scan state and row memory.
+#[derive(Clone)]
+struct Second {
+    bank: Bank,
+    scan: Scan,
+    rows: Vec<u8>,
+}
+
+fn numbered(answer: Result<(), u8>) -> Said {
+    answer.map_or_else(Said::Refused, |()| Said::Accepted)
+}
+
+impl Second {
+    fn call(&mut self, call: &Call) -> Said {
+        match call {
+            Call::Admit { records, rows } => numbered(bank::admit(
+                &mut self.bank,
+                &mut self.scan,
+                &mut self.rows,
+                records,
+                rows,
+            )),
+            Call::Latch(words) => numbered(bank::latch(&self.bank, &mut self.scan, *words)),
+            Call::Step => {
+                let mut scan = self.scan.clone();
+                let quick = fast::step::step(&self.bank, &mut scan, &self.rows);
+                let answer = bank::step(&self.bank, &mut self.scan, &self.rows);
+                assert_eq!((quick, scan), (answer, self.scan.clone()));
+                match answer {
+                    Step::Went { block, cell } => Said::Went { block, cell },
+                    Step::Idle => Said::Idle,
+                    Step::Refused(number) => Said::Refused(number),
+                }
+            }
+        }
+    }
+
+    fn state(&self) -> State {
+        State::of(&self.bank, &self.scan, self.rows.clone())
+    }
+}
+
+/// The proved function's answer.
+fn said(state: &mut State, call: &Call) -> Said {
+    let numbered = |refusal: u8| match refusal {
+        0 => Said::Accepted,
+        number => Said::Refused(number),
+    };
+    match call {
+        Call::Admit { records, rows } => numbered(state.admit(records, rows)),
+        Call::Latch(words) => numbered(state.latch(words)),
+        Call::Step => match state.step() {
+            StepNumbers {
+                kind: 1,
+                block,
+                cell,
+                refusal: 0,
+            } => Said::Went { block, cell },
+            StepNumbers {
+                kind: 0,
+                block: 0,
+                cell: 0,
+                refusal: 0,
+            } => Said::Idle,
+            StepNumbers {
+                kind: 2,
+                block: 0,
+                cell: 0,
+                refusal,
+            } => Said::Refused(refusal),
+            other => panic!("{other:?}"),
+        },
+    }
+}
+
+/// The outputs in the bytes of a scan state.
+fn outputs(state: &State) -> Outputs {
+    let count = usize::from(state.bank[2]);
+    let value = |v: u8| (v != NOT_SET).then_some(v == 1);
+    let places = state.scan[21..].chunks_exact(8).take(count);
+    places
+        .map(|place| std::array::from_fn(|o| value(place[o])))
+        .collect()
+}
+
+fn word(answer: Said) -> String {
+    match answer {
+        Said::Accepted => "accepted".to_string(),
+        Said::Refused(number) => number.to_string(),
+        Said::Went { .. } => "went".to_string(),
+        Said::Idle => "idle".to_string(),
+    }
+}
+
+#[test]
+fn lists_of_calls() {
+    let mut random = Random::new(1, SEED, 0);
+    let (mut lists, mut made) = (0, 0);
+    let mut seen: BTreeMap<String, u64> = BTreeMap::new();
+    for index in 0..24_000 {
+        let (limit, row_memory, list) = calls(SEED, index, &blocks(index));
+        let (bank, scan) = bank::new_bank(u64::from(limit)).expect("S in range");
+        let rows: Vec<u8> = (0..row_memory).map(|_| random.next() as u8).collect();
+        let mut second = Second { bank, scan, rows };
+        let mut state = second.state();
+        state.bank.fill(random.next() as u8);
+        state.scan.fill(random.next() as u8);
+        assert_eq!(state.make(usize::from(limit)), 0);
+        assert_eq!(state, second.state(), "list {index}");
+        let mut book = Book::new(limit, row_memory);
+        for call in &list {
+            let answer = said(&mut state, call);
+            assert_eq!(answer, second.call(call), "list {index}");
+            assert_eq!(answer, book.enter(call), "list {index}");
+            assert_eq!(outputs(&state), book.outputs(), "list {index}");
+            assert_eq!(state, second.state(), "list {index}");
+            *seen.entry(word(answer)).or_default() += 1;
+            made += 1;
+        }
+        lists += 1;
+    }
+    println!("{lists} lists, {made} calls: {seen:?}");
+    for number in ["11", "12", "13", "14", "went", "idle"] {
+        assert!(seen.contains_key(number), "{number}");
+    }
+}
+
+/// One field of the bank or the scan state takes another value; `held` are the blocks.
+fn spoil(random: &mut Random, second: &mut Second, held: &[StoredBlock]) {
+    let place = random.below(8);
+    let (bank, scan) = (&mut second.bank, &mut second.scan);
+    match random.below(12) {
+        0 => bank.limit = random.pick(&[0, 256, 257, 511, 65_535]),
+        1 => bank.limit = random.within(1, 255) as u16,
+        2 => bank.count = random.pick(&[0, 1, 7, 8, 9, 255]),
+        3 => bank.lengths[place] = random.pick(&[0, 1, 19, 20, 21, 255]),
+        4 => {
+            let byte = random.below(80);
+            bank.records[place][byte] = random.pick(&[0, 1, 2, 9, 11, 12, 127, 128, 135, 136]);
+        }
+        5 => bank.records[place][random.below(80)] ^= 1 << random.below(8),
+        6 if !held.is_empty() => {
+            let (records, _) = damage(random.next(), 0, &held[random.below(held.len())]);
+            let length = records.len().min(80);
+            bank.records[place][..length].copy_from_slice(&records[..length]);
+            bank.lengths[place] = (records.len() / 4) as u8;
+        }
+        7 => scan.running = !scan.running,
+        8 => scan.block = random.pick(&[0, 1, 2, 3, 7, 8, 255]),
+        9 => scan.cell = random.pick(&[0, 1, 2, 3, 4, 19, 20, 255]),
+        10 => {
+            let bits = random.below(16);
+            scan.rail = random.pick(&[0, 1, 255, 256, 65_535, 1 << bits]);
+            if random.coin() {
+                scan.rail = random.below(1 << (bits / 2)) as u16;
+            }
+        }
+        _ => {
+            scan.words[place] = random.word();
+            scan.outputs[place][random.below(8)] = random.next() as u8;
+        }
+    }
+}
+
+/// States that no list of calls leaves, each tried on all three calls.
+#[test]
+fn damaged_states() {
+    let mut random = Random::new(2, SEED, 0);
+    let mut seen: BTreeMap<String, u64> = BTreeMap::new();
+    let mut states = 0;
+    for index in 0..24_000 {
+        let blocks = blocks(index % 6_000);
+        let (limit, row_memory, list) = calls(SEED, index, &blocks);
+        let (bank, scan) = bank::new_bank(u64::from(limit)).expect("S in range");
+        let rows: Vec<u8> = (0..row_memory).map(|_| random.next() as u8).collect();
+        let mut second = Second { bank, scan, rows };
+        let made = random.within(0, list.len());
+        for call in &list[..made] {
+            second.call(call);
+        }
+        for _ in 0..5 {
+            let mut spoilt = second.clone();
+            for _ in 0..random.within(1, 3) {
+                spoil(&mut random, &mut spoilt, &blocks);
+            }
+            if random.percent(20) {
+                spoilt.rows.truncate(random.below(spoilt.rows.len() + 1));
+            }
+            let (records, rows) = blocks[random.below(blocks.len())].clone();
+            let words = std::array::from_fn(|_| random.word());
+            // any byte but 0 says that a scan runs
+            let running = random.within(1, 255) as u8;
+            for call in [
+                Call::Admit { records, rows },
+                Call::Latch(words),
+                Call::Step,
+            ] {
+                let mut after = spoilt.clone();
+                let mut state = spoilt.state();
+                if spoilt.scan.running {
+                    state.scan[0] = running;
+                }
+                let before = state.clone();
+                let answer = said(&mut state, &call);
+                assert_eq!(answer, after.call(&call), "state of list {index}");
+                match answer {
+                    Said::Refused(_) | Said::Idle => assert_eq!(state, before),
+                    Said::Accepted | Said::Went { .. } => assert_eq!(state, after.state()),
+                }
+                *seen.entry(word(answer)).or_default() += 1;
+            }
+            states += 1;
+        }
+    }
+    println!("{states} damaged states, each on three calls: {seen:?}");
+    assert!(states >= 100_000);
+    for number in ["11", "12", "13", "14", "went", "idle", "accepted"] {
+        assert!(seen.contains_key(number), "{number}");
+    }
+}
+
+/// States of any bytes.
+#[test]
+fn any_bytes() {
+    let mut random = Random::new(3, SEED, 0);
+    for index in 0..20_000 {
+        let mut state = State {
+            bank: std::array::from_fn(|_| random.next() as u8),
+            scan: std::array::from_fn(|_| random.next() as u8),
+            rows: (0..random.below(64)).map(|_| random.next() as u8).collect(),
+        };
+        if index % 2 == 0 {
+            state.bank[1] = 0;
+            state.bank[2] %= 9;
+        }
+        let formed =
+            state.bank[1] == 0 && state.bank[0] != 0 && state.bank[2] == 0 && state.scan[0] == 0;
+        let before = state.clone();
+        let (records, rows) = block(SEED, index % 50);
+        let answers = [
+            state.admit(&records, &rows),
+            state.clone().latch(&[index as u16; 8]),
+        ];
+        let step = state.step();
+        if !formed {
+            assert_eq!(answers, [12, 12]);
+            assert_eq!((step.kind, step.refusal), (2, 12));
+            assert_eq!(state, before);
+        }
+    }
+}
+
+/// S of any size.
+#[test]
+fn limits() {
+    for limit in (0..300).chain([511, 65_535, 65_536, 65_537, 1 << 32, usize::MAX]) {
+        let mut state = State {
+            bank: [7; held::BANK_BYTES],
+            scan: [9; held::SCAN_BYTES],
+            rows: Vec::new(),
+        };
+        let before = state.clone();
+        match bank::new_bank(limit as u64) {
+            Ok((bank, scan)) => {
+                assert_eq!(state.make(limit), 0);
+                assert_eq!(state, State::of(&bank, &scan, Vec::new()));
+            }
+            Err(number) => {
+                assert_eq!(state.make(limit), number);
+                assert_eq!(state, before);
+            }
+        }
+    }
+}
+
+/// A whole scan of compiled blocks sets what a run over the latched words emits.
+#[test]
+fn whole_scans() {
+    for index in 0..500 {
+        let blocks = blocks(index);
+        let (bank, scan) = bank::new_bank(255).expect("S in range");
+        let mut state = State::of(&bank, &scan, vec![0; 32_768]);
+        for (records, rows) in &blocks {
+            assert_eq!(state.admit(records, rows), 0);
+        }
+        let words: [u16; 8] = std::array::from_fn(|b| (index * 977 + b as u64 * 331) as u16);
+        assert_eq!(state.latch(&words), 0);
+        while state.step().kind == 1 {}
+        for (place, (records, rows)) in blocks.iter().enumerate() {
+            let emitted = stored::emit(records, rows, words[place] & 0xFFF).expect("well formed");
+            assert_eq!(outputs(&state)[place], emitted);
+        }
+    }
+}
