@@ -1,0 +1,47 @@
+-- `words::all_digits` meets its contract.
+-- Assumes nothing.
+use mathlib.Core.Path.{_≡_, refl}
+use Prim.Native.Nat.{_≤_, _-_}
+use native.Mathlib.Omega.{arith}
+use denote.Ref.{now}
+use lib.ListN.{length}
+use Rattle.laws.specs.Tests.{every}
+use Rattle.call_text.specs.Words.{isDigit}
+use Rattle.call_text.proofs.WordLaws.{every-step}
+use borrow.Author.Needs.{needs}
+use Rattle.call_text.proofs.words.all_digits.Statement.{statement}
+use Rattle.call_text.proofs.words.all_digits.Tie as tie
+
+abbrev Inv-loop : tie.InvT-loop
+Inv-loop text good₀ i₀ good i = (i ≤ length text) × (good ≡ every i (isDigit text))
+
+abbrev μ-loop : tie.MeasureT-loop
+μ-loop text good₀ i₀ good i = length text - i
+
+loop-holds : tie.Need-loop-holds Inv-loop μ-loop
+loop-holds c = (omega arith, refl)
+
+is-digit-requires : tie.Need-is-digit-requires Inv-loop μ-loop
+is-digit-requires c κs = search needs
+
+add-i : tie.Need-add-i Inv-loop μ-loop
+add-i c = search needs
+
+loop-less : tie.Need-loop-less Inv-loop μ-loop
+loop-less c = search needs
+
+loop-again : tie.Need-loop-again Inv-loop μ-loop
+loop-again c =
+    let l = c .before .before .loop in
+    (omega arith, every-step (isDigit (now (c .before .before .before .before .args .text))) (l .i) (l .inv .1) (c .is-digit .ensures))
+
+returns : tie.Need-returns Inv-loop μ-loop
+returns c =
+    let l = c .before .loop in
+    let e : l .i ≡ length (now (c .before .before .before .args .text)) = omega arith in
+    rw e at (l .inv .1)
+
+pub all-digits-spec : {M : Type 1} → statement M
+all-digits-spec =
+    tie.close
+    (tie.spec Inv-loop μ-loop loop-holds is-digit-requires add-i loop-less loop-again returns)

@@ -1,0 +1,4 @@
+-- The definitions of calls written as text.
+pub mod Words
+pub mod Lines
+pub mod Opened

@@ -1,0 +1,47 @@
+// A list of calls as text, read into its bytes.
+mod lines;
+mod words;
+
+ghost use mathlib.Core.Path.{_≡_};
+ghost use Rattle.call_text.specs.Lines.{lineEnd, memoryIn, readText};
+use crate::lines::memory_line;
+use crate::lines::read_lines;
+use crate::words::byte_in;
+
+// What reading a text answers: 11 where the memory for the calls is too short, how many bytes of calls there are, and the number of the line that
+// can't be read, 0 where there is none.
+pub struct TextRead {
+    pub refusal: u8,
+    pub size: usize,
+    pub bad: usize,
+}
+
+// The length of the first line.
+pub fn line_end(text: &[u8]) -> usize
+    ensures { λ r. ⌜ r ≡ lineEnd (now (text .entry)) ⌝ }
+{
+    byte_in(text, 10)
+}
+
+// The bytes of row memory that the first line says; 32,769 where it says none.
+pub fn memory_said(text: &[u8]) -> usize
+    ensures { λ r. ⌜ r ≡ memoryIn (now (text .entry)) ⌝ }
+{
+    memory_line(&text[..line_end(text)])
+}
+
+// Reads the calls of the lines, numbered from first on, up to the first that can't be read, into the lent memory.
+pub fn read_text(text: &[u8], first: u32, code: &mut [u8]) -> TextRead
+    ensures { λ r.
+        ⌜ record { refusal = r .refusal; size = r .size; badLine = r .bad; code = now (code .exit) }
+        ≡ readText (now (text .entry)) first (now (code .entry)) ⌝ }
+{
+    if code.len() < text.len() {
+        return TextRead {
+            refusal: 11,
+            size: 0,
+            bad: 0,
+        };
+    }
+    read_lines(text, first as usize, code)
+}
