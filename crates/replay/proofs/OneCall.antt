@@ -1,0 +1,133 @@
+-- One call of a list, made on a bank: what its answer shows, and which call the bytes at the front are.
+-- Assumes nothing.
+use mathlib.Core.Path.{_≡_, refl, sym, _∙_, ap}
+use mathlib.Core.List.{List}
+use Prim.Native.Nat.{ℕ, _+_, _*_, _-_, _<_, _≤_}
+use native.Mathlib.Omega.{arith}
+use borrow.Author.Tests.{leb-true, ne-eqb}
+use lib.Dec.{leb}
+use lib.ListN.{length, getD, take, drop}
+use Rattle.laws.specs.Lists.{tab}
+use Rattle.laws.proofs.Cases.{by-test, cond-yes, cond-no}
+use Rattle.bank.specs.declared.Bank.{Bank}
+use Rattle.bank.specs.declared.Scan.{Scan}
+use Rattle.bank.specs.declared.StepAnswer.{StepAnswer}
+use Rattle.bank.specs.declared.StepAnswer.the-variants.{Went, Idle, Refused}
+use Rattle.bank.specs.State.{State, limitRefused}
+use Rattle.bank.specs.Calls.{After, numbered, answerOf, admit, latch, step}
+use Rattle.bank.specs.declared.Started.{Started}
+use Rattle.bank.specs.Given.{stateOf, givenNumber, givenAnswer, started}
+use Rattle.bank.specs.Lists.{call, admission, latching, stepping}
+use Rattle.replay.specs.Coded.{making, calling, pair, saidSize, size, first}
+use Rattle.replay.specs.Entries.{onBank, kindOf, firstOf, secondOf}
+use Rattle.replay.specs.Replay.{Shown, shown, shownOf}
+
+-- what a number shows
+pub shown-accepted : (n : ℕ) (k : Bank) (s : Scan) (rows : List ℕ) → n ≡ 0 → shownOf 0 0 0 k s rows ≡ shown (givenNumber n k s rows)
+unfolding shown kindOf firstOf secondOf numbered
+shown-accepted n k s rows h = rw h
+
+pub shown-refused : (n : ℕ) (k : Bank) (s : Scan) (rows : List ℕ) → (n ≡ 0 → ⊥) → shownOf 1 n 0 k s rows ≡ shown (givenNumber n k s rows)
+unfolding shown kindOf firstOf secondOf numbered
+shown-refused n k s rows h = rw (ne-eqb n 0 h) refl
+
+-- what a step's answer shows
+module _ (k : Bank) (s : Scan) (rows : List ℕ) {a : StepAnswer} where
+  pub shown-went : (b c : ℕ) → a ≡ Went b c → shownOf 3 b c k s rows ≡ shown (givenAnswer a k s rows)
+  unfolding shown kindOf firstOf secondOf answerOf
+  shown-went b c e = sym (ap (λ (x : StepAnswer). shown (givenAnswer x k s rows)) e)
+
+  pub shown-idle : a ≡ Idle → shownOf 2 0 0 k s rows ≡ shown (givenAnswer a k s rows)
+  unfolding shown kindOf firstOf secondOf answerOf
+  shown-idle e = sym (ap (λ (x : StepAnswer). shown (givenAnswer x k s rows)) e)
+
+  pub shown-step-refused : (n : ℕ) → a ≡ Refused n → shownOf 1 n 0 k s rows ≡ shown (givenAnswer a k s rows)
+  unfolding shown kindOf firstOf secondOf answerOf
+  shown-step-refused n e = sym (ap (λ (x : StepAnswer). shown (givenAnswer x k s rows)) e)
+
+-- a bank made, and refused
+module _ (k : Bank) (s : Scan) (S : ℕ) {made : Started} (e : made ≡ started S) where
+  pub made-accepts : made .refusal ≡ 0 → (rows : List ℕ) → shown (givenNumber 0 (made .bank) (made .scan) rows) ≡ shown (onBank (stateOf k s rows) (making S))
+  unfolding started onBank numbered
+  made-accepts z rows =
+      by-test (limitRefused S)
+      (λ t. absurd (omega (arith, z, ap (λ (m : Started). m .refusal) (e ∙ cond-yes (limitRefused S) _ _ t))))
+      (λ t.
+      ap shown
+      (ap (λ (m : Started). givenNumber 0 (m .bank) (m .scan) rows) (e ∙ cond-no (limitRefused S) _ _ t)
+      ∙ sym (cond-no (limitRefused S) _ _ t)))
+
+  pub made-refuses : (made .refusal ≡ 0 → ⊥) → (rows : List ℕ) → shown (givenNumber 1 k s rows) ≡ shown (onBank (stateOf k s rows) (making S))
+  unfolding started onBank numbered
+  made-refuses z rows =
+      by-test (limitRefused S)
+      (λ t. ap shown (sym (cond-yes (limitRefused S) _ _ t)))
+      (λ t. absurd (z (ap (λ (m : Started). m .refusal) (e ∙ cond-no (limitRefused S) _ _ t))))
+
+-- the records and rows of an admission, as cut out of its bytes
+pub shown-admit : (k : Bank) (s : Scan) (rows l : List ℕ) (a b : ℕ) {x : Shown} {r : After State} → a ≡ pair l 1 → b ≡ pair l 3
+    → x ≡ shown r → r ≡ admit (stateOf k s rows) (take (5 + a - 5) (drop 5 l)) (take (5 + a + b - (5 + a)) (drop (5 + a) l))
+    → x ≡ shown (admit (stateOf k s rows) (take (pair l 1) (drop 5 l)) (take (pair l 3) (drop (5 + pair l 1) l)))
+shown-admit k s rows l a b p q e d =
+    let u : 5 + a - 5 ≡ pair l 1 = omega (arith, p) in
+    let v : 5 + a + b - (5 + a) ≡ pair l 3 = omega (arith, q) in
+    e ∙ ap shown (rw (u, v, p) at d)
+
+-- a latch of the words in its bytes
+pub shown-latch : (k : Bank) (s : Scan) (rows l : List ℕ) {ws : List ℕ} {x : Shown} {r : After State} → ws ≡ tab 8 (λ b. pair l (1 + 2 * b))
+    → x ≡ shown r → r ≡ latch (stateOf k s rows) ws
+    → x ≡ shown (latch (stateOf k s rows) (tab 8 (λ b. pair l (1 + 2 * b))))
+shown-latch k s rows l p e d = e ∙ ap shown (d ∙ ap (latch (stateOf k s rows)) p)
+
+-- the call at the front, by its first byte
+module _ (l : List ℕ) where
+  first-make : getD l 0 0 ≡ 0 → first l ≡ making (pair l 1)
+  unfolding first
+  first-make e = rw e
+
+  first-admit : getD l 0 0 ≡ 1
+      → first l ≡ calling (admission (take (pair l 1) (drop 5 l)) (take (pair l 3) (drop (5 + pair l 1) l)))
+  unfolding first
+  first-admit e = rw e
+
+  first-latch : getD l 0 0 ≡ 2 → first l ≡ calling (latching (tab 8 (λ b. pair l (1 + 2 * b))))
+  unfolding first
+  first-latch e = rw e
+
+  first-step : (getD l 0 0 ≡ 0 → ⊥) → (getD l 0 0 ≡ 1 → ⊥) → (getD l 0 0 ≡ 2 → ⊥) → first l ≡ calling stepping
+  unfolding first
+  first-step p q r = rw (ne-eqb (getD l 0 0) 0 p, ne-eqb (getD l 0 0) 1 q, ne-eqb (getD l 0 0) 2 r)
+
+  said-admit : getD l 0 0 ≡ 1 → saidSize l ≡ 5 + pair l 1 + pair l 3
+  unfolding saidSize
+  said-admit e = rw e
+
+  -- an admission's bytes are there
+  pub admission-there : 0 < size l → getD l 0 0 ≡ 1 → 5 + pair l 1 + pair l 3 ≤ length l
+  unfolding size
+  admission-there h e =
+      by-test (leb (saidSize l) (length l))
+      (λ t. omega (arith, said-admit e, leb-true (saidSize l) (length l) t))
+      (λ t. absurd (omega (arith, h, cond-no (leb (saidSize l) (length l)) (saidSize l) 0 t)))
+
+-- what it shows on a bank
+module _ (k : Bank) (s : Scan) (rows l : List ℕ) {x : Shown} where
+  pub made-first : {S : ℕ} → getD l 0 0 ≡ 0 → S ≡ pair l 1 → x ≡ shown (onBank (stateOf k s rows) (making S))
+      → x ≡ shown (onBank (stateOf k s rows) (first l))
+  made-first e p d = rw (first-make l e, sym p) d
+
+  pub admitted-first : getD l 0 0 ≡ 1
+      → x ≡ shown (admit (stateOf k s rows) (take (pair l 1) (drop 5 l)) (take (pair l 3) (drop (5 + pair l 1) l)))
+      → x ≡ shown (onBank (stateOf k s rows) (first l))
+  unfolding onBank call
+  admitted-first e d = rw (first-admit l e) d
+
+  pub latched-first : getD l 0 0 ≡ 2 → x ≡ shown (latch (stateOf k s rows) (tab 8 (λ b. pair l (1 + 2 * b))))
+      → x ≡ shown (onBank (stateOf k s rows) (first l))
+  unfolding onBank call
+  latched-first e d = rw (first-latch l e) d
+
+  pub stepped-first : (getD l 0 0 ≡ 0 → ⊥) → (getD l 0 0 ≡ 1 → ⊥) → (getD l 0 0 ≡ 2 → ⊥) → x ≡ shown (step (stateOf k s rows))
+      → x ≡ shown (onBank (stateOf k s rows) (first l))
+  unfolding onBank call
+  stepped-first p q r d = rw (first-step l p q r) d

@@ -1,0 +1,73 @@
+-- `replay::calling::admit_coded` meets its contract.
+-- Assumes nothing.
+use denote.Ref.{now}
+use Rattle.replay.proofs.OneCall.{shown-admit}
+use borrow.Author.Needs.{needs}
+use Rattle.replay.proofs.calling.admit_coded.Statement.{statement}
+use Rattle.replay.proofs.calling.admit_coded.Tie as tie
+
+pair-at-requires : tie.Need-pair-at-requires
+pair-at-requires c κs = search needs
+
+add-middle : tie.Need-add-middle
+add-middle c = search needs
+
+pair-at-requires-2 : tie.Need-pair-at-requires-2
+pair-at-requires-2 c κs = search needs
+
+add-end : tie.Need-add-end
+add-end c = search needs
+
+sub-admit : tie.Need-sub-admit
+sub-admit c = search needs
+
+part-admit-start : tie.Need-part-admit-start
+part-admit-start c = search needs
+
+part-admit-end : tie.Need-part-admit-end
+part-admit-end c = search needs
+
+sub-admit-2 : tie.Need-sub-admit-2
+sub-admit-2 c = search needs
+
+part-admit-start-2 : tie.Need-part-admit-start-2
+part-admit-start-2 c = search needs
+
+part-admit-end-2 : tie.Need-part-admit-end-2
+part-admit-end-2 c = search needs
+
+admit-requires : tie.Need-admit-requires
+admit-requires c κs = search needs
+
+numbered-requires : tie.Need-numbered-requires
+numbered-requires c κs = search needs
+
+same-length : tie.Need-same-length
+same-length c = search needs
+
+returns : tie.Need-returns
+returns c =
+    let called = c .before .before .before .before .before in
+    let pairs = called .before .before .before .before in
+    let a = pairs .before .before .before .before .args in
+    shown-admit (a .bank) (a .scan) (now (a .rows)) (now (a .list)) (pairs .before .pair-at .result) (pairs .pair-at2 .result)
+    (pairs .before .pair-at .ensures .0) (pairs .pair-at2 .ensures .0) (c .numbered .ensures _) (called .admit .ensures)
+
+pub admit-coded-spec : {M : Type 1} → statement M
+admit-coded-spec =
+    tie.close
+    (tie.spec
+    pair-at-requires
+    add-middle
+    pair-at-requires-2
+    add-end
+    sub-admit
+    part-admit-start
+    part-admit-end
+    sub-admit-2
+    part-admit-start-2
+    part-admit-end-2
+    admit-requires
+    numbered-requires
+    same-length
+    returns)

@@ -1,0 +1,31 @@
+-- `replay::coded::pair_at` meets its contract.
+-- Assumes nothing.
+use native.Mathlib.Omega.{arith}
+use borrow.Author.Needs.{needs}
+use Rattle.replay.specs.Coded.{pair}
+use Rattle.replay.proofs.coded.pair_at.Statement.{statement}
+use Rattle.replay.proofs.coded.pair_at.Tie as tie
+
+byte-at-requires : tie.Need-byte-at-requires
+byte-at-requires c κs = search needs
+
+add-byte-at : tie.Need-add-byte-at
+add-byte-at c = search needs
+
+byte-at-requires-2 : tie.Need-byte-at-requires-2
+byte-at-requires-2 c κs = search needs
+
+mul-result : tie.Need-mul-result
+mul-result c = search needs
+
+add-result : tie.Need-add-result
+add-result c = search needs
+
+returns : tie.Need-returns
+unfolding pair
+returns c = (omega arith, omega arith)
+
+pub pair-at-spec : {M : Type 1} → statement M
+pair-at-spec =
+    tie.close
+    (tie.spec byte-at-requires add-byte-at byte-at-requires-2 mul-result add-result returns)

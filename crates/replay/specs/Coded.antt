@@ -1,0 +1,58 @@
+-- A list of calls in bytes, one call after another.
+--   0, S                          makes a bank with S
+--   1, R, Q, R bytes, Q bytes     admits the block with these records and rows
+--   2, eight words                latches the words
+--   3                             steps
+-- S, R, Q and the words are two bytes each, the low byte first.
+-- Assumes nothing.
+use Prim.Native.Nat.{ℕ, zero, suc, _+_, _*_}
+use mathlib.Core.Bool.{Bool, cond}
+use mathlib.Core.List.{List, [], _∷_}
+use lib.Dec.{eqb, leb}
+use lib.ListN.{length, getD, take, drop}
+use Rattle.laws.specs.Lists.{tab}
+use Rattle.bank.specs.Lists.{Call, admission, latching, stepping}
+
+-- a bank made with S, or a call on the bank that was made last
+pub data Coded : Type 0 where
+  making : ℕ → Coded
+  calling : Call → Coded
+
+-- the number in the two bytes at place i
+unfoldable pub pair : List ℕ → ℕ → ℕ
+pair l i = getD l i 0 + 256 * getD l (i + 1) 0
+
+-- how many bytes the call at the front says it has; 0 where its first byte names none
+unfoldable pub saidSize : List ℕ → ℕ
+saidSize l =
+    let code = getD l 0 0 in
+    cond (eqb code 0) 3 (cond (eqb code 1) (5 + pair l 1 + pair l 3) (cond (eqb code 2) 17 (cond (eqb code 3) 1 0)))
+
+-- how many it has; 0 where no whole call stands at the front
+unfoldable pub size : List ℕ → ℕ
+size l = cond (leb (saidSize l) (length l)) (saidSize l) 0
+
+-- the call at the front, where a whole one stands there
+unfoldable pub first : List ℕ → Coded
+first l =
+    let code = getD l 0 0 in
+    cond (eqb code 0) (making (pair l 1))
+    (cond (eqb code 1) (calling (admission (take (pair l 1) (drop 5 l)) (take (pair l 3) (drop (5 + pair l 1) l))))
+    (cond (eqb code 2) (calling (latching (tab 8 (λ i. pair l (1 + 2 * i))))) (calling stepping)))
+
+-- the calls from the front on, n at most, as long as whole ones stand there, and the bytes left after them
+unfoldable pub callsTo : ℕ → List ℕ → List Coded
+callsTo zero l = []
+callsTo (suc n) l = let rest = callsTo n (drop (size l) l) in cond (eqb (size l) 0) [] (first l ∷ rest)
+
+unfoldable pub leftAfter : ℕ → List ℕ → List ℕ
+leftAfter zero l = l
+leftAfter (suc n) l = let rest = leftAfter n (drop (size l) l) in cond (eqb (size l) 0) l rest
+
+-- a call has at least one byte, so there are no more calls than bytes
+unfoldable pub callsIn : List ℕ → List Coded
+callsIn l = callsTo (length l) l
+
+-- nothing is left: the bytes are whole calls
+unfoldable pub readable : List ℕ → Bool
+readable l = eqb (length (leftAfter (length l) l)) 0
