@@ -8,5 +8,6 @@ pub mod generate;
 pub mod job;
 pub mod list;
 pub mod plain;
+pub mod replay;
 pub mod run;
 pub mod stored;
