@@ -32,12 +32,9 @@ pub mod Refined
 pub mod Nodes
 pub mod Children
 pub mod Stages
-pub mod WordWalks
 pub mod Descents
 pub mod Steps
 pub mod DescentSteps
-pub mod Halves
-pub mod Compared
 pub mod Owners
 pub mod NodeTable
 pub mod Passes

@@ -1,4 +1,4 @@
-// The reduction layer: columns, compatibility, cover, merging, the diagram and walks over it.
+// The reduction layer: columns, compatibility, cover, merging and the diagram.
 mod casts;
 mod cover;
 mod distinct;
@@ -7,23 +7,14 @@ mod links;
 mod merging;
 mod node_words;
 mod packed;
-mod walks;
 mod whole;
 
 ghost use mathlib.Core.Path.{_≡_};
 ghost use Rattle.sheet.specs.Job.{job};
 ghost use Rattle.reduction.specs.Reduction.{reduction, widthsAfter, wordsAfter};
-ghost use Rattle.reduction.specs.Walk.{walk};
-ghost use Rattle.reduction.specs.Compare.{sameColumns, compatibleColumns};
-ghost use Rattle.reduction.specs.Descent.{descent};
 use crate::casts::wide16;
 use crate::node_words::copy_widths;
 use crate::node_words::copy_words;
-use crate::walks::compatible_nodes;
-use crate::walks::descend;
-use crate::walks::less;
-use crate::walks::same_nodes;
-use crate::walks::walk_to;
 use crate::whole::make;
 
 // A node of the diagram: its height, its child for 0 and its child for 1. Child 0 is constant 0, child 1 constant 1; node 2 stands first.
@@ -71,58 +62,4 @@ pub fn reduce(
     copy_widths(n + m, &made_widths, widths);
     copy_words(wide16(r.nodes) * 3, &made_words, words);
     r
-}
-
-// Where a walk from the node at the height ends; bit g of bits is the value of the variable at height g + 1.
-pub fn walk(words: &[u16; 30720], bits: u32, height: u8, node: u16) -> u16
-    ensures { λ r. ⌜ r ≡ walk (now (words .entry)) bits height node ⌝ }
-{
-    walk_to(words, bits, height, node)
-}
-
-// The columns of the nodes v and u at one height are the same.
-pub fn same_columns(words: &[u16; 30720], height: u8, v: u16, u: u16) -> bool
-    ensures { λ r. ⌜ r ≡ sameColumns (now (words .entry)) height v u ⌝ }
-{
-    if height <= 20 {
-        return same_nodes(words, height, v, u);
-    }
-    false
-}
-
-// The columns of the nodes v and u at one height are compatible.
-pub fn compatible_columns(words: &[u16; 30720], height: u8, v: u16, u: u16) -> bool
-    ensures { λ r. ⌜ r ≡ compatibleColumns (now (words .entry)) height v u ⌝ }
-{
-    if height <= 20 {
-        return compatible_nodes(words, height, v, u);
-    }
-    false
-}
-
-// From the node at the cut top down to the cut bottom; inputs are the values of the count inputs between, topmost most significant.
-pub fn descent(
-    words: &[u16; 30720],
-    order: &[u8],
-    top: u8,
-    bottom: u8,
-    node: u16,
-    inputs: u16,
-    count: u8,
-) -> Reached
-    ensures { λ r. ⌜ r ≡ descent (now (words .entry)) (now (order .entry)) top bottom node inputs count ⌝ }
-{
-    if top <= 20 {
-        return descend(
-            words,
-            order,
-            bottom,
-            less(top, bottom),
-            node,
-            inputs,
-            count,
-            0,
-        );
-    }
-    Reached { node, outputs: 0 }
 }
