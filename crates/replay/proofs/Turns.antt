@@ -1,4 +1,4 @@
--- One turn of running a list of calls: the call at the front is made, its bytes are written, and the rest of the list is run after it.
+-- One turn of a loop over a list of calls: the call at the front is passed, or made and its bytes written, and the rest comes after it.
 -- Assumes nothing.
 use mathlib.Core.Path.{_≡_, sym, _∙_, ap, ap₂}
 use mathlib.Core.Bool.{true}
@@ -82,8 +82,14 @@ module _ (l : List ℕ) (at n : ℕ) (e : n ≡ size (rest l at)) (more : 0 < n)
       ∙ ap (λ (t : List ℕ). ran (stateOf k′ s′ rows′) cs (place + 68) t) (sym wrote)
 
 -- no bytes are left
+none-there : size [] ≡ 0
+none-there = omega (arith, size-fits [])
+
 pub calls-over : (l : List ℕ) (at : ℕ) → length l ≤ at → callsIn (drop at l) ≡ []
-calls-over l at h = ap callsIn (drop-of-length-le l h) ∙ calls-none [] (omega (arith, size-fits []))
+calls-over l at h = ap callsIn (drop-of-length-le l h) ∙ calls-none [] none-there
+
+pub readable-over : (l : List ℕ) (at : ℕ) → length l ≤ at → readable (drop at l) ≡ true
+readable-over l at h = ap readable (drop-of-length-le l h) ∙ readable-none [] none-there
 
 pub run-over : (l : List ℕ) (at : ℕ) → length l ≤ at → (s : State) (place : ℕ) (tr : List ℕ)
     → ran s (callsIn (drop at l)) place tr ≡ record { rows = s .rows; trace = tr }
