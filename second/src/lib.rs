@@ -7,6 +7,7 @@ pub mod fast;
 pub mod generate;
 pub mod job;
 pub mod list;
+pub mod panel;
 pub mod plain;
 pub mod replay;
 pub mod run;

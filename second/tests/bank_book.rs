@@ -1,75 +1,25 @@
 //! Bank against book on random lists of calls, and what demand 3 says beside the book.
 
-use second::bank::{admit, latch, new_bank, step, Bank, Scan, Step, NOT_SET};
-use second::book::{Book, Call, Outputs, Said};
-use second::generate::{block, calls, job, Family, StoredBlock};
-use second::job::{Answer, Lent, Node};
-use second::{fast, stored};
+use second::book::{Book, Call, Said};
+use second::generate::{block, calls, compiled, job, Family, StoredBlock};
+use second::panel::Panel;
+use second::stored;
 
 const SEED: u64 = 4711;
 
-/// A bank with its scan state and row memory.
-#[derive(Clone)]
-struct Panel {
-    bank: Bank,
-    scan: Scan,
-    rows: Vec<u8>,
-}
-
-impl Panel {
-    fn new(limit: u8, row_memory: usize) -> Panel {
-        let (bank, scan) = new_bank(u64::from(limit)).expect("S in range");
-        let rows = (0..row_memory).map(|i| (i * 37 + 11) as u8).collect();
-        Panel { bank, scan, rows }
-    }
-
-    fn call(&mut self, call: &Call) -> Said {
-        let plain = |answer: Result<(), u8>| answer.map_or_else(Said::Refused, |()| Said::Accepted);
-        match call {
-            Call::Admit { records, rows } => plain(admit(
-                &mut self.bank,
-                &mut self.scan,
-                &mut self.rows,
-                records,
-                rows,
-            )),
-            Call::Latch(words) => plain(latch(&self.bank, &mut self.scan, *words)),
-            Call::Step => {
-                let mut scan = self.scan.clone();
-                let quick = fast::step::step(&self.bank, &mut scan, &self.rows);
-                let answer = step(&self.bank, &mut self.scan, &self.rows);
-                assert_eq!((quick, scan), (answer, self.scan.clone()));
-                match answer {
-                    Step::Went { block, cell } => Said::Went { block, cell },
-                    Step::Idle => Said::Idle,
-                    Step::Refused(number) => Said::Refused(number),
-                }
-            }
-        }
-    }
-
-    fn outputs(&self) -> Outputs {
-        let value = |v: u8| (v != NOT_SET).then_some(v == 1);
-        let held = self.scan.outputs[..usize::from(self.bank.count)].iter();
-        held.map(|outputs| outputs.map(value)).collect()
-    }
-}
-
 /// Hand-made blocks and blocks that the compiler wrote.
 fn blocks(index: u64) -> Vec<StoredBlock> {
-    let mut blocks: Vec<_> = (0..3).map(|k| block(SEED, index * 3 + k)).collect();
-    let job = job(Family::SmallOrders, SEED, index);
-    let mut lent = Lent {
-        nodes: vec![Node::default(); 10_240],
-        records: vec![0; 80],
-        rows: vec![0; 32_768],
-    };
-    if let Answer::Accepted(totals) = fast::compile(&job, &mut lent) {
-        lent.records.truncate(4 * job.order.len());
-        lent.rows.truncate(totals.rows);
-        blocks.push((lent.records, lent.rows));
-    }
-    blocks
+    let hand_made = (0..3).map(|k| block(SEED, index * 3 + k));
+    hand_made
+        .chain(compiled(&job(Family::SmallOrders, SEED, index)))
+        .collect()
+}
+
+fn panel(limit: u8, row_memory: usize) -> Panel {
+    Panel::new(
+        limit,
+        (0..row_memory).map(|i| (i * 37 + 11) as u8).collect(),
+    )
 }
 
 #[test]
@@ -77,7 +27,7 @@ fn bank_answers_and_sets_what_the_book_does() {
     let (mut lists, mut made, mut refused) = (0, 0, [0; 15]);
     for index in 0..6_000 {
         let (limit, row_memory, list) = calls(SEED, index, &blocks(index));
-        let mut panel = Panel::new(limit, row_memory);
+        let mut panel = panel(limit, row_memory);
         let mut book = Book::new(limit, row_memory);
         for call in &list {
             let before = panel.clone();
@@ -102,7 +52,7 @@ fn bank_answers_and_sets_what_the_book_does() {
 fn a_scan_reads_as_many_cells_as_there_are() {
     for index in 0..1_000 {
         let (limit, row_memory, list) = calls(SEED, index, &blocks(index));
-        let mut panel = Panel::new(limit, row_memory);
+        let mut panel = panel(limit, row_memory);
         let mut book = Book::new(limit, row_memory);
         let mut scan: Option<(usize, usize)> = None;
         for call in &list {
@@ -134,7 +84,7 @@ fn unread_inputs_stand_as_they_like() {
         let words: [u16; 8] =
             std::array::from_fn(|b| (index * 977 + b as u64 * 331) as u16 & 0xFFF);
         let flips: [u16; 8] = std::array::from_fn(|b| (index * 7919 + b as u64 * 127) as u16);
-        let mut panel = Panel::new(255, 40_000);
+        let mut panel = panel(255, 40_000);
         for (records, rows) in &blocks {
             let (records, rows) = (records.clone(), rows.clone());
             assert_eq!(panel.call(&Call::Admit { records, rows }), Said::Accepted);

@@ -2,73 +2,27 @@
 //! of bank, scan state and row memory after each call.
 
 use held::{State, StepNumbers};
-use second::bank::{self, Bank, Scan, Step, NOT_SET};
+use second::bank::{self, NOT_SET};
 use second::book::{Book, Call, Outputs, Said};
-use second::generate::{block, calls, damage, job, Family, Random, StoredBlock};
-use second::job::{Answer, Lent, Node};
-use second::{fast, stored};
+use second::generate::{block, calls, compiled, damage, job, Family, Random, StoredBlock};
+use second::panel::Panel;
+use second::stored;
 use std::collections::BTreeMap;
 
 const SEED: u64 = 9341;
 
 /// Hand-made blocks, and one that the compiler wrote.
 fn blocks(index: u64) -> Vec<StoredBlock> {
-    let mut blocks: Vec<_> = (0..3).map(|k| block(SEED, index * 3 + k)).collect();
     let family = [Family::SmallOrders, Family::SmallManyFree, Family::Medium][index as usize % 3];
-    let job = job(family, SEED, index);
-    let mut lent = Lent {
-        nodes: vec![Node::default(); 10_240],
-        records: vec![0; 80],
-        rows: vec![0; 32_768],
-    };
-    if let Answer::Accepted(totals) = fast::compile(&job, &mut lent) {
-        lent.records.truncate(4 * job.order.len());
-        lent.rows.truncate(totals.rows);
-        blocks.push((lent.records, lent.rows));
-    }
-    blocks
+    let hand_made = (0..3).map(|k| block(SEED, index * 3 + k));
+    hand_made
+        .chain(compiled(&job(family, SEED, index)))
+        .collect()
 }
 
-/// The second bank with its scan state and row memory.
-#[derive(Clone)]
-struct Second {
-    bank: Bank,
-    scan: Scan,
-    rows: Vec<u8>,
-}
-
-fn numbered(answer: Result<(), u8>) -> Said {
-    answer.map_or_else(Said::Refused, |()| Said::Accepted)
-}
-
-impl Second {
-    fn call(&mut self, call: &Call) -> Said {
-        match call {
-            Call::Admit { records, rows } => numbered(bank::admit(
-                &mut self.bank,
-                &mut self.scan,
-                &mut self.rows,
-                records,
-                rows,
-            )),
-            Call::Latch(words) => numbered(bank::latch(&self.bank, &mut self.scan, *words)),
-            Call::Step => {
-                let mut scan = self.scan.clone();
-                let quick = fast::step::step(&self.bank, &mut scan, &self.rows);
-                let answer = bank::step(&self.bank, &mut self.scan, &self.rows);
-                assert_eq!((quick, scan), (answer, self.scan.clone()));
-                match answer {
-                    Step::Went { block, cell } => Said::Went { block, cell },
-                    Step::Idle => Said::Idle,
-                    Step::Refused(number) => Said::Refused(number),
-                }
-            }
-        }
-    }
-
-    fn state(&self) -> State {
-        State::of(&self.bank, &self.scan, self.rows.clone())
-    }
+/// The bytes that the second bank's state is.
+fn lent(panel: &Panel) -> State {
+    State::of(&panel.bank, &panel.scan, panel.rows.clone())
 }
 
 /// The proved function's answer.
@@ -130,21 +84,20 @@ fn lists_of_calls() {
     let mut seen: BTreeMap<String, u64> = BTreeMap::new();
     for index in 0..24_000 {
         let (limit, row_memory, list) = calls(SEED, index, &blocks(index));
-        let (bank, scan) = bank::new_bank(u64::from(limit)).expect("S in range");
-        let rows: Vec<u8> = (0..row_memory).map(|_| random.next() as u8).collect();
-        let mut second = Second { bank, scan, rows };
-        let mut state = second.state();
-        state.bank.fill(random.next() as u8);
-        state.scan.fill(random.next() as u8);
-        assert_eq!(state.make(usize::from(limit)), 0);
-        assert_eq!(state, second.state(), "list {index}");
+        let rows = (0..row_memory).map(|_| random.next() as u8).collect();
+        let mut second = Panel::new(limit, rows);
+        let mut held = lent(&second);
+        held.bank.fill(random.next() as u8);
+        held.scan.fill(random.next() as u8);
+        assert_eq!(held.make(usize::from(limit)), 0);
+        assert_eq!(held, lent(&second), "list {index}");
         let mut book = Book::new(limit, row_memory);
         for call in &list {
-            let answer = said(&mut state, call);
+            let answer = said(&mut held, call);
             assert_eq!(answer, second.call(call), "list {index}");
             assert_eq!(answer, book.enter(call), "list {index}");
-            assert_eq!(outputs(&state), book.outputs(), "list {index}");
-            assert_eq!(state, second.state(), "list {index}");
+            assert_eq!(outputs(&held), book.outputs(), "list {index}");
+            assert_eq!(held, lent(&second), "list {index}");
             *seen.entry(word(answer)).or_default() += 1;
             made += 1;
         }
@@ -157,7 +110,7 @@ fn lists_of_calls() {
 }
 
 /// One field of the bank or the scan state takes another value; `held` are the blocks.
-fn spoil(random: &mut Random, second: &mut Second, held: &[StoredBlock]) {
+fn spoil(random: &mut Random, second: &mut Panel, held: &[StoredBlock]) {
     let place = random.below(8);
     let (bank, scan) = (&mut second.bank, &mut second.scan);
     match random.below(12) {
@@ -202,9 +155,8 @@ fn damaged_states() {
     for index in 0..24_000 {
         let blocks = blocks(index % 6_000);
         let (limit, row_memory, list) = calls(SEED, index, &blocks);
-        let (bank, scan) = bank::new_bank(u64::from(limit)).expect("S in range");
-        let rows: Vec<u8> = (0..row_memory).map(|_| random.next() as u8).collect();
-        let mut second = Second { bank, scan, rows };
+        let rows = (0..row_memory).map(|_| random.next() as u8).collect();
+        let mut second = Panel::new(limit, rows);
         let made = random.within(0, list.len());
         for call in &list[..made] {
             second.call(call);
@@ -227,16 +179,16 @@ fn damaged_states() {
                 Call::Step,
             ] {
                 let mut after = spoilt.clone();
-                let mut state = spoilt.state();
+                let mut held = lent(&spoilt);
                 if spoilt.scan.running {
-                    state.scan[0] = running;
+                    held.scan[0] = running;
                 }
-                let before = state.clone();
-                let answer = said(&mut state, &call);
+                let before = held.clone();
+                let answer = said(&mut held, &call);
                 assert_eq!(answer, after.call(&call), "state of list {index}");
                 match answer {
-                    Said::Refused(_) | Said::Idle => assert_eq!(state, before),
-                    Said::Accepted | Said::Went { .. } => assert_eq!(state, after.state()),
+                    Said::Refused(_) | Said::Idle => assert_eq!(held, before),
+                    Said::Accepted | Said::Went { .. } => assert_eq!(held, lent(&after)),
                 }
                 *seen.entry(word(answer)).or_default() += 1;
             }

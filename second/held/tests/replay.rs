@@ -1,10 +1,9 @@
 //! The proved program that runs a list of calls against the second one: what both print on the same text.
 
 use second::book::Call;
-use second::generate::{block, calls, job, Family, Random, StoredBlock};
-use second::job::{Answer, Lent, Node};
+use second::generate::{block, calls, compiled, job, Family, Random, StoredBlock};
 use second::replay::{printed, TEXT_BYTES};
-use second::{fast, run::output_of};
+use second::run::output_of;
 use std::collections::BTreeMap;
 use std::fmt::Write;
 use std::path::PathBuf;
@@ -28,22 +27,11 @@ fn compare(text: &[u8], seen: &mut BTreeMap<String, u64>) {
 
 /// Hand-made blocks of few rows, and one that the compiler wrote.
 fn blocks(index: u64) -> Vec<StoredBlock> {
-    let mut blocks: Vec<_> = (0..6)
-        .map(|k| block(SEED, index * 6 + k))
+    let hand_made = (0..6).map(|k| block(SEED, index * 6 + k));
+    hand_made
         .filter(|(_, rows)| rows.len() <= 300)
-        .collect();
-    let job = job(Family::SmallOrders, SEED, index);
-    let mut lent = Lent {
-        nodes: vec![Node::default(); 10_240],
-        records: vec![0; 80],
-        rows: vec![0; 32_768],
-    };
-    if let Answer::Accepted(totals) = fast::compile(&job, &mut lent) {
-        lent.records.truncate(4 * job.order.len());
-        lent.rows.truncate(totals.rows);
-        blocks.push((lent.records, lent.rows));
-    }
-    blocks
+        .chain(compiled(&job(Family::SmallOrders, SEED, index)))
+        .collect()
 }
 
 fn digits(bytes: &[u8]) -> String {

@@ -1,6 +1,8 @@
 //! Hand-made blocks in the stored form, and damage to them.
 
 use super::random::Random;
+use crate::fast;
+use crate::job::{Answer, Job, Lent, Node};
 
 /// Records and rows.
 pub type StoredBlock = (Vec<u8>, Vec<u8>);
@@ -145,4 +147,19 @@ pub fn damage(seed: u64, index: u64, block: &StoredBlock) -> StoredBlock {
             return found;
         }
     }
+}
+
+/// The block that the compiler writes for a job; None where it refuses.
+pub fn compiled(job: &Job) -> Option<StoredBlock> {
+    let mut lent = Lent {
+        nodes: vec![Node::default(); 10_240],
+        records: vec![0; 80],
+        rows: vec![0; 32_768],
+    };
+    let Answer::Accepted(totals) = fast::compile(job, &mut lent) else {
+        return None;
+    };
+    lent.records.truncate(4 * job.order.len());
+    lent.rows.truncate(totals.rows);
+    Some((lent.records, lent.rows))
 }

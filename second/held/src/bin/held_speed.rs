@@ -3,8 +3,8 @@
 use held::{compile, reduce, sheet_refusal, sheet_table, State, NODE_WORDS, TABLE_BYTES, WIDTHS};
 use second::bank::{self, Bank, Scan};
 use second::fast::{self, read, Compiler};
-use second::generate::{block, job, Family, StoredBlock};
-use second::job::{Answer, Job, Lent, Node};
+use second::generate::{block, compiled as compiled_block, job, Family, StoredBlock};
+use second::job::{Job, Lent, Node};
 use second::plain;
 use std::process::ExitCode;
 use std::time::Instant;
@@ -211,18 +211,7 @@ fn steps(name: &str, blocks: &[StoredBlock]) {
 
 /// Blocks that the compiler writes for table 1, and hand-made ones of many records.
 fn banks() -> Vec<(&'static str, Vec<StoredBlock>)> {
-    let mut lent = Lent {
-        nodes: vec![Node::default(); 10_240],
-        records: vec![0; 80],
-        rows: vec![0; 32_768],
-    };
-    let job = second::cases::a();
-    let Answer::Accepted(totals) = fast::compile(&job, &mut lent) else {
-        unreachable!("case A is accepted")
-    };
-    lent.records.truncate(4 * job.order.len());
-    lent.rows.truncate(totals.rows);
-    let table1 = (lent.records, lent.rows);
+    let table1 = compiled_block(&second::cases::a()).expect("case A is accepted");
     let long: Vec<StoredBlock> = (0..)
         .map(|i| block(1, i))
         .filter(|(records, rows)| records.len() == 80 && rows.len() < 4_000)
