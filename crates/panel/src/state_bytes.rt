@@ -1,6 +1,6 @@
 // The bank and the scan state as bytes that C lends.
 ghost use mathlib.Core.Path.{_≡_};
-ghost use Prim.Native.Nat.{ℕ, _<_, _+_, _*_};
+ghost use Prim.Native.Nat.{_<_, _+_, _*_};
 ghost use lib.ListN.{getD};
 ghost use Rattle.laws.specs.Bits.{flag};
 ghost use Rattle.laws.specs.Lists.{tab, puts, putsAt};

@@ -1,7 +1,7 @@
 // Calls in bytes.
 ghost use mathlib.Core.Path.{_≡_};
 ghost use mathlib.Core.Bool.{true};
-ghost use Prim.Native.Nat.{ℕ, _≤_, _<_, _+_, _*_};
+ghost use Prim.Native.Nat.{_≤_, _<_, _+_, _*_};
 ghost use lib.ListN.{length, getD};
 ghost use Rattle.laws.specs.Lists.{tab};
 ghost use Rattle.replay.specs.Coded.{pair, saidSize, size, callsIn, readable};

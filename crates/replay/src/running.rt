@@ -2,13 +2,12 @@
 ghost use mathlib.Core.Path.{_≡_};
 ghost use mathlib.Core.Bool.{true, cond};
 ghost use mathlib.Core.List.{_∷_};
-ghost use Prim.Native.Nat.{ℕ, _≤_, _<_, _+_, _*_};
+ghost use Prim.Native.Nat.{_≤_, _<_, _+_, _*_};
 ghost use lib.Dec.{ltb};
 ghost use lib.ListN.{length, getD};
 ghost use Rattle.laws.specs.Lists.{tab, written, putsAt};
 ghost use Rattle.bank.specs.State.{fresh};
-ghost use Rattle.bank.specs.Calls.{After};
-ghost use Rattle.replay.specs.Coded.{size, callsIn, readable};
+ghost use Rattle.replay.specs.Coded.{callsIn, readable};
 ghost use Rattle.replay.specs.Entries.{noBank, bookEntries, bankAfter, traceBytes};
 use crate::calling::Called;
 use crate::calling::call_first;

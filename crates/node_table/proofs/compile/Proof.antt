@@ -1,5 +1,6 @@
 -- `compile` meets its contract: a walk of its MIR, by hand. A local array of words is lent to `compile_words`, then to `fill`.
 -- The order, the sheet, the records and the rows are given to the first for good, and the node table to the second.
+-- Assumes nothing.
 use mathlib.Core.Path.{_≡_, refl, ap, subst, sym, _∙_}
 use Prim.Native.Nat.{ℕ, _<_, _≤_, _^_, _*_}
 use native.Mathlib.Omega.{arith}

@@ -1,4 +1,5 @@
 -- `read_node` meets its contract: a walk of its MIR, by hand.
+-- Assumes nothing.
 use mathlib.Core.Path.{_≡_, refl, sym}
 use Prim.Native.Nat.{ℕ, _<_, _^_, _*_}
 use native.Mathlib.Omega.{arith}

@@ -1,5 +1,6 @@
 -- `fill` meets its contract: a walk of its MIR, by hand. In a turn of the loop `node_of` is called with a copy of the words, and the node table is lent again to `store_node` for a lifetime that is made for the call, and comes back.
 -- The invariant, where t turns are left: the table holds the first count - t nodes.
+-- Assumes nothing.
 use mathlib.Core.Path.{_≡_, refl, sym, ap, subst, _∙_}
 use Prim.Native.Nat.{ℕ, zero, suc, _<_, _≤_, _^_, _*_, _+_, _-_}
 use native.Mathlib.Omega.{arith}

@@ -1,4 +1,5 @@
 -- `store_node` meets its contract: a walk of its MIR, by hand.
+-- Assumes nothing.
 use mathlib.Core.Path.{refl, sym, ap, subst}
 use Prim.Native.Nat.{ℕ, _<_, _^_, _*_}
 use native.Mathlib.Omega.{arith}

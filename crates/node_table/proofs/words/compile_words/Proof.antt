@@ -1,3 +1,5 @@
+-- `node_table::words::compile_words` meets its contract.
+-- Assumes nothing.
 use mathlib.Core.Path.{sym}
 use native.Mathlib.Omega.{arith}
 use borrow.Author.Needs.{needs}
