@@ -5,12 +5,13 @@
 --   3                             steps
 -- S, R, Q and the words are two bytes each, the low byte first.
 -- Assumes nothing.
-use Prim.Native.Nat.{ℕ, zero, suc, _+_, _*_}
-use mathlib.Core.Bool.{Bool, cond}
-use mathlib.Core.List.{List, [], _∷_}
-use lib.Dec.{eqb, leb}
+use Prim.Native.Nat.{ℕ, zero, suc, _+_, _*_, _/_, _%_}
+use mathlib.Core.Bool.{Bool, true, cond, _&&_}
+use mathlib.Core.List.{List, [], _∷_, _++_}
+use lib.Dec.{eqb, leb, ltb}
 use lib.ListN.{length, getD, take, drop}
-use Rattle.laws.specs.Lists.{tab}
+use Rattle.laws.specs.Lists.{tab, joined}
+use Rattle.laws.specs.Tests.{every}
 use Rattle.bank.specs.Lists.{Call, admission, latching, stepping}
 
 -- a bank made with S, or a call on the bank that was made last
@@ -56,3 +57,34 @@ callsIn l = callsTo (length l) l
 -- nothing is left: the bytes are whole calls
 unfoldable pub readable : List ℕ → Bool
 readable l = eqb (length (leftAfter (length l) l)) 0
+
+-- a number in two bytes
+abbrev pub pairOf : ℕ → List ℕ
+pairOf x = x % 256 ∷ x / 256 ∷ []
+
+-- every element is a byte
+abbrev pub allBytes : List ℕ → Bool
+allBytes [] = true
+allBytes (x ∷ l) = ltb x 256 && allBytes l
+
+-- the bytes of a call, and whether its numbers fit in them
+unfoldable pub codeOf : Coded → List ℕ
+codeOf (making S) = 0 ∷ pairOf S
+codeOf (calling (admission R bytes)) = 1 ∷ (pairOf (length R) ++ pairOf (length bytes) ++ R ++ bytes)
+codeOf (calling (latching ws)) = 2 ∷ joined 8 (λ b. pairOf (getD ws b 0))
+codeOf (calling stepping) = 3 ∷ []
+
+unfoldable pub fits : Coded → Bool
+fits (making S) = ltb S 65536
+fits (calling (admission R bytes)) = ltb (length R) 65536 && ltb (length bytes) 65536 && allBytes R && allBytes bytes
+fits (calling (latching ws)) = eqb (length ws) 8 && every 8 (λ b. ltb (getD ws b 0) 65536)
+fits (calling stepping) = true
+
+-- a list of calls, one after another
+unfoldable pub codesOf : List Coded → List ℕ
+codesOf [] = []
+codesOf (c ∷ cs) = codeOf c ++ codesOf cs
+
+unfoldable pub allFit : List Coded → Bool
+allFit [] = true
+allFit (c ∷ cs) = fits c && allFit cs
