@@ -6,3 +6,4 @@ pub mod BookTraces
 pub mod Traces
 pub mod Turns
 pub mod Refusals
+pub mod ListClaim
