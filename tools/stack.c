@@ -17,6 +17,10 @@ static uint8_t records[CASCADE_RECORD_BYTES];
 static uint8_t rows[CASCADE_ROW_BYTES];
 static uint16_t widths[CASCADE_WIDTHS];
 static unsigned refusal;
+static uint8_t bank[CASCADE_BANK_BYTES];
+static uint8_t scan[CASCADE_SCAN_BYTES];
+static uint8_t held_rows[CASCADE_ROW_BYTES];
+static size_t made_rows;
 
 static const uint8_t *order(void) { return input + 4; }
 static size_t variables(void) { return (size_t)input[0] + input[1]; }
@@ -27,9 +31,30 @@ static void *nothing(void *unused) { return unused; }
 
 static void *compile(void *unused)
 {
-    refusal = cascade_compile(input[0], input[1], input[2], input[3], order(), variables(), sheet(), sheet_length(), nodes,
-                              CASCADE_NODE_WORDS, records, CASCADE_RECORD_BYTES, rows, CASCADE_ROW_BYTES, widths)
-                  .refusal;
+    cascade_totals made = cascade_compile(input[0], input[1], input[2], input[3], order(), variables(), sheet(), sheet_length(),
+                                          nodes, CASCADE_NODE_WORDS, records, CASCADE_RECORD_BYTES, rows, CASCADE_ROW_BYTES,
+                                          widths);
+    refusal = made.refusal;
+    made_rows = made.rows;
+    return unused;
+}
+
+static void *admit(void *unused)
+{
+    refusal = cascade_admit(bank, scan, records, 4 * variables(), rows, made_rows, held_rows, sizeof held_rows);
+    return unused;
+}
+
+static void *latch(void *unused)
+{
+    static const uint16_t words[CASCADE_PLACES];
+    refusal = cascade_latch(bank, scan, words);
+    return unused;
+}
+
+static void *step(void *unused)
+{
+    refusal = cascade_step(bank, scan, held_rows, sizeof held_rows).refusal;
     return unused;
 }
 
@@ -69,5 +94,10 @@ int main(void)
     printf("cascade_reduce %zu\n", used_by(reduce) - least);
     printf("cascade_compile %zu\n", used_by(compile) - least);
     printf("refusal %u\n", refusal);
+    if (refusal != 0 || cascade_bank_new(255, bank, scan) != 0)
+        return 0;
+    printf("cascade_admit %zu\n", used_by(admit) - least);
+    printf("cascade_latch %zu\n", used_by(latch) - least);
+    printf("cascade_step %zu\n", used_by(step) - least);
     return 0;
 }
