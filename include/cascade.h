@@ -95,11 +95,14 @@ cascade_reduction cascade_reduce(size_t n, size_t m, size_t k, size_t l,
  *          11   the records, 80 bytes a place
  *   scan   0    not 0 while a scan has reads left         1, 2  block and cell of the next read
  *          3-4  its rail word         5-20  the latched words, two bytes each, low byte first
- *          21   the outputs, 8 bytes a place: 0 or 1 where set, else CASCADE_NOT_SET */
+ *          21   the outputs, 8 bytes a place: 0 or 1 where set, else CASCADE_NOT_SET
+ *
+ * Stack: CASCADE_BANK_STACK bytes are enough for each of the four. */
 #define CASCADE_PLACES 8
 #define CASCADE_BANK_BYTES 651
 #define CASCADE_SCAN_BYTES 85
 #define CASCADE_NOT_SET 2
+#define CASCADE_BANK_STACK 8192
 #define CASCADE_OUTPUT(scan, place, output) ((scan)[21 + 8 * (place) + (output)])
 
 /* A new bank with the scan limit s, 1 to 255, and its fresh scan state. Answers 0, or 1 where s is out of range, and then

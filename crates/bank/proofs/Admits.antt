@@ -15,7 +15,7 @@ use Rattle.laws.proofs.Puts.{copied-at}
 use Rattle.stored.specs.Stored.{wellFormed, recordsFormed, rowsFormed, recordCount, cellCount, rowCount}
 use Rattle.stored.specs.Reads.{rowsCounted}
 use Rattle.stored.proofs.StoredParts.{records-have}
-use Rattle.stored.proofs.CellReads.{cells-all, cells-few, rows-counted}
+use Rattle.stored.proofs.CellReads.{cells-all, cells-few, formed-fit, rows-counted}
 use Rattle.bank.specs.State.{State, Bank, Scan, cellsBefore, rowsBefore, cellsHeld, rowsHeld, bankFormed, scanFormed, formed, atRest, emptyBank, limitRefused}
 use Rattle.bank.specs.Calls.{After, numbered, admitRefusal, withBlock, admitted, admit}
 use Rattle.bank.specs.Given.{Started, stateOf, givenNumber, started}
@@ -68,7 +68,7 @@ block-has R bytes e =
     let a = and-split _ (every (cellCount R) (rowsFormed R bytes)) e in
     let b = and-split (recordsFormed R) (eqb (length bytes) (rowCount R)) (a .0) in
     let h = records-have R (b .0) in
-    let c = rows-counted R (b .0) in
+    let c = rows-counted R (formed-fit R (b .0)) in
     record {
       size = omega (arith, h .whole, h .few);
       cells = omega (arith, cells-all R, cells-few R (recordCount R), h .few);

@@ -14,10 +14,10 @@ use Rattle.laws.proofs.Cases.{and-split}
 use Rattle.laws.proofs.Tests.{every-at}
 use Rattle.laws.proofs.Counts.{sum-next}
 use Rattle.stored.specs.Stored.{recordsFormed, recordCount, cellCount, cellAt, rowCount}
-use Rattle.stored.specs.Reads.{hasCell, rowsCounted, cellRails}
+use Rattle.stored.specs.Reads.{rowsCounted, cellRails}
 use Rattle.stored.specs.declared.CellRails.{CellRails}
 use Rattle.stored.proofs.StoredParts.{records-have}
-use Rattle.stored.proofs.CellReads.{cells-all, cells-few, rows-counted, few-rails, some-rails}
+use Rattle.stored.proofs.CellReads.{cells-all, cells-few, formed-fit, rows-counted, rowsTold, rails-told, few-rails, some-rails}
 use Rattle.bank.specs.State.{Bank, Scan, recordsOf, blockFormed, cellsBefore, rowsBefore, cellsHeld, rowsHeld, bankFormed, scanFormed}
 
 -- a number between two
@@ -79,15 +79,14 @@ module _ (k : Bank) (b : ℕ) where
     rows-at-most = records-have (recordsOf k b) records-well .rows
 
     pub rows-are : rowsCounted (recordsOf k b) ≡ rowCount (recordsOf k b)
-    rows-are = sym (rows-counted (recordsOf k b) records-well)
+    rows-are = sym (rows-counted (recordsOf k b) (formed-fit (recordsOf k b) records-well))
 
     module _ (cell : ℕ) (l : cell < cellCount (recordsOf k b)) where
-      has : hasCell (recordsOf k b) cell ≡ true
-      unfolding hasCell
-      has = ap₂ _&&_ records-well (lt-ltb cell (cellCount (recordsOf k b)) l)
+      told : rowsTold (recordsOf k b) cell ≡ true
+      told = ap₂ _&&_ (formed-fit (recordsOf k b) records-well) (lt-ltb cell (cellCount (recordsOf k b)) l)
 
       pub rails-at-most : cellAt (recordsOf k b) cell .upper ≤ 12
-      rails-at-most = few-rails (recordsOf k b) cell has
+      rails-at-most = few-rails (recordsOf k b) cell told
 
       -- the upper rails u that a call gives
       module _ {n u : ℕ} {r : CellRails} (s : n ≡ getD (k .lengths) b 0)
@@ -96,7 +95,7 @@ module _ (k : Bank) (b : ℕ) where
         upper-is =
             g
             ∙ ap (λ (c : CellRails). c .upper)
-            (h ∙ ap (λ (R : List ℕ). cellRails R cell) (part-is s) ∙ sym (some-rails (recordsOf k b) cell has))
+            (h ∙ ap (λ (R : List ℕ). cellRails R cell) (part-is s) ∙ sym (some-rails (recordsOf k b) cell (rails-told (recordsOf k b) cell told)))
 
         pub words-at-most : 2 ^ u ≤ 4096
         words-at-most = pow-mono {j = 12} (omega (arith, upper-is, rails-at-most))

@@ -17,7 +17,7 @@ use Rattle.stored.specs.Stored.{cellCount, cellAt, rowCount}
 use Rattle.stored.specs.Run.{rowPlace, outputsAfter}
 use Rattle.stored.specs.Reads.{hasCell, cellRails, rowRead, outputsRead}
 use Rattle.stored.specs.declared.CellRails.{CellRails}
-use Rattle.stored.proofs.CellReads.{few-outs, some-rails, some-row, some-outputs}
+use Rattle.stored.proofs.CellReads.{rowsTold, rails-told, rows-told, few-outs, some-rails, some-row, some-outputs}
 use Rattle.bank.specs.State.{Bank, Scan, recordsOf, rowsBefore, rowsHeld, blockFormed, bankFormed, scanFormed, formed}
 use Rattle.bank.specs.Calls.{outputsOf}
 use Rattle.bank.proofs.FormedCells.{row-within}
@@ -75,8 +75,11 @@ module _ (k : Bank) (s : Scan) (e : formed k s ≡ true) (on : s .running ≡ tr
   unfolding hasCell
   cell-there = and-join (records-well k (s .block) block-formed) (both-held .1)
 
+  rows-there : rowsTold records (s .cell) ≡ true
+  rows-there = rows-told records (s .cell) cell-there
+
   pub few-lower : cellAt records (s .cell) .lower ≤ 8
-  few-lower = omega (arith, few-outs records (s .cell) cell-there)
+  few-lower = omega (arith, few-outs records (s .cell) rows-there)
 
   -- the records lent, of block b
   module _ {b n : ℕ} (p : b ≡ s .block) (q : n ≡ getD (k .lengths) b 0) where
@@ -91,12 +94,12 @@ module _ (k : Bank) (s : Scan) (e : formed k s ≡ true) (on : s .running ≡ tr
   module _ {R : List ℕ} {c : ℕ} (p : R ≡ records) (q : c ≡ s .cell) where
     pub lower-is : {r : CellRails} → r ≡ cellRails R c → r .lower ≡ cellAt records (s .cell) .lower
     lower-is h =
-        ap (λ (r : CellRails). r .lower) (h ∙ ap₂ cellRails p q ∙ sym (some-rails records (s .cell) cell-there))
+        ap (λ (r : CellRails). r .lower) (h ∙ ap₂ cellRails p q ∙ sym (some-rails records (s .cell) (rails-told records (s .cell) rows-there)))
 
     row-is : (w : ℕ) {r : ℕ} → r ≡ rowRead R c (s .rail) w → r ≡ rowPlace records (s .cell) (s .rail) w
     unfolding rowPlace
     row-is w h =
-        h ∙ ap₂ (λ (x : List ℕ) (y : ℕ). rowRead x y (s .rail) w) p q ∙ sym (some-row records (s .cell) cell-there (s .rail) w rail-held)
+        h ∙ ap₂ (λ (x : List ℕ) (y : ℕ). rowRead x y (s .rail) w) p q ∙ sym (some-row records (s .cell) rows-there (s .rail) w rail-held)
 
     pub outputs-are : (x : ℕ) (l : List ℕ) {vs : List ℕ} → vs ≡ outputsRead R c x l → vs ≡ outputsAfter (cellAt records (s .cell)) l x
     outputs-are x l h =

@@ -184,6 +184,10 @@ pub place-all : (R : List ℕ) (k : ℕ) → recordsFormed R ≡ true → placeI
 unfolding placeIn cellPlace heightAbove rowsBefore cellCount cellAt storedCells
 place-all R k e = rw e refl
 
+pub begin-all : (R : List ℕ) (k : ℕ) → k < cellCount R → placeIn (cellsTo R (recordCount R)) (recordCount R) k .at ≡ rowsBefore R k
+unfolding placeIn rowsBefore cellCount cellAt storedCells
+begin-all R k l = rw (lt-ltb k (length (cellsTo R (recordCount R))) l) refl
+
 pub place-none : (R : List ℕ) (k : ℕ) → recordsFormed R ≡ false → noPlace ≡ cellPlace R k
 unfolding cellPlace
 place-none R k e = rw e refl

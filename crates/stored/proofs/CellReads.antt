@@ -6,21 +6,21 @@ use mathlib.Core.List.{List, [], _∷_, _++_}
 use Prim.Native.Nat.{ℕ, zero, suc, _+_, _-_, _^_, _≤_, _<_}
 use native.Mathlib.Numerals.{add-one}
 use native.Mathlib.Omega.{arith}
-use lib.Dec.{eqb, ltb, eqb·zero-suc, eqb·suc-suc}
+use lib.Dec.{eqb, leb, ltb, eqb·zero-suc, eqb·suc-suc}
 use lib.ListN.{length, getD, List·getD-append}
 use lib.Seq.{append-snoc, getD-append-add}
-use borrow.Author.Tests.{eq-eqb, ne-eqb, ltb-true, lt-ltb, le-ltb}
+use borrow.Author.Tests.{eq-eqb, ne-eqb, leb-true, le-leb, ltb-true, lt-ltb, le-ltb}
+use Rattle.laws.specs.Tests.{every}
 use Rattle.laws.proofs.Cases.{by-less, by-equal, cond-yes, cond-no, cond-both, and-split, and-join, and-left-no}
 use Rattle.laws.proofs.Tests.{every-at}
-use Rattle.laws.proofs.Counts.{sum-fewer}
+use Rattle.laws.proofs.Counts.{sum-le, sum-fixed}
 use Rattle.sheet.specs.Job.{isInput}
 use Rattle.stored.specs.Cells.{fits, rows}
 use Rattle.stored.specs.Stored.{StoredCell, Reading, recordCount, variable, cutByte, railByte, appended, withVariable, withCut, reading}
 use Rattle.stored.specs.Stored.{storedCells, cellCount, noCell, cellAt, sizeOf, rowsBefore, rowCount, cellFormed, recordsFormed}
-use Rattle.stored.specs.Places.{cellPlace}
 use Rattle.stored.specs.Run.{address, rowPlace, outputsAfter}
-use Rattle.stored.specs.Reads.{hasCell, rowsCounted, cellRails, rowRead, outputsRead}
-use Rattle.stored.proofs.CellSizes.{few-inputs, few-outputs}
+use Rattle.stored.specs.Reads.{hasCell, cellsFit, rowsCounted, cellRails, rowRead, outputsRead}
+use Rattle.stored.proofs.CellSizes.{few-inputs, few-outputs, few-rows}
 use Rattle.stored.proofs.StoredCells.{cellsTo, endedCell}
 use Rattle.stored.proofs.StoredParts.{RecordsHave, records-have}
 use Rattle.stored.proofs.CellPlaces.{turn-cells}
@@ -161,80 +161,119 @@ cells-few R (suc i) =
 pub few-cells : (R : List ℕ) (i cut : ℕ) {cell r : ℕ} → cell ≡ length (cellsTo R i) → r ≡ cond (eqb cut 1) 1 0 → cell + r ≤ i + 1
 few-cells R i cut p q = omega (arith, p, q, one-cell (eqb cut 1), cells-few R i)
 
--- rows counted
-pub rows-counted : (R : List ℕ) → recordsFormed R ≡ true → rowCount R ≡ rowsCounted R
+-- rows counted, where the cells fit
+pub formed-fit : (R : List ℕ) → recordsFormed R ≡ true → cellsFit R ≡ true
+unfolding cellsFit
+formed-fit R e = let h = records-have R e in and-join (le-leb (length R) 80 (omega (arith, h .whole, h .few))) (h .cells)
+
+pub fit-parts : (R : List ℕ) → cellsFit R ≡ true → (length R ≤ 80) × (every (cellCount R) (cellFormed R) ≡ true)
+unfolding cellsFit
+fit-parts R e =
+    let h = and-split (leb (length R) 80) (every (cellCount R) (cellFormed R)) e in
+    (leb-true (length R) 80 (h .0), h .1)
+
+pub rows-counted : (R : List ℕ) → cellsFit R ≡ true → rowCount R ≡ rowsCounted R
 unfolding rowsCounted
-rows-counted R e = sym (cond-yes (recordsFormed R) (rowCount R) 0 e)
+rows-counted R e = sym (cond-yes (cellsFit R) (rowCount R) 0 e)
 
-pub rows-uncounted : (R : List ℕ) → recordsFormed R ≡ false → 0 ≡ rowsCounted R
+pub rows-uncounted : (R : List ℕ) → cellsFit R ≡ false → 0 ≡ rowsCounted R
 unfolding rowsCounted
-rows-uncounted R e = sym (cond-no (recordsFormed R) (rowCount R) 0 e)
+rows-uncounted R e = sym (cond-no (cellsFit R) (rowCount R) 0 e)
 
-module _ (R : List ℕ) (k : ℕ) (e : hasCell R k ≡ false) where
-  pub no-rails : record { upper = 0; lower = 0 } ≡ cellRails R k
+module _ (R : List ℕ) (k : ℕ) where
+  -- cell k has rails that are told; its rows can be counted
+  abbrev pub railsTold : Bool
+  railsTold = leb (length R) 80 && ltb k (cellCount R)
+
+  abbrev pub rowsTold : Bool
+  rowsTold = cellsFit R && ltb k (cellCount R)
+
+  -- no cell k
+  pub no-rails : railsTold ≡ false → record { upper = 0; lower = 0 } ≡ cellRails R k
   unfolding cellRails
-  no-rails = sym (cond-no (hasCell R k) _ _ e)
+  no-rails e = sym (cond-no railsTold _ _ e)
 
-  pub no-row : (r w : ℕ) → 0 ≡ rowRead R k r w
+  pub no-row : rowsTold ≡ false → (r w : ℕ) → 0 ≡ rowRead R k r w
   unfolding rowRead
-  no-row r w = sym (cond-no (hasCell R k && ltb r (2 ^ cellAt R k .upper)) _ 0 (and-left-no (hasCell R k) _ e))
+  no-row e r w = sym (cond-no (rowsTold && ltb r (2 ^ cellAt R k .upper)) _ 0 (and-left-no rowsTold _ e))
 
-  pub no-outputs : (x : ℕ) (outs : List ℕ) → outs ≡ outputsRead R k x outs
+  pub no-outputs : hasCell R k ≡ false → (x : ℕ) (outs : List ℕ) → outs ≡ outputsRead R k x outs
   unfolding outputsRead
-  no-outputs x outs = sym (cond-no (hasCell R k) _ outs e)
+  no-outputs e x outs = sym (cond-no (hasCell R k) _ outs e)
 
--- a cell k that there is
-module _ (R : List ℕ) (k : ℕ) (e : hasCell R k ≡ true) where
-  has-parts : (recordsFormed R ≡ true) × (ltb k (cellCount R) ≡ true)
-  unfolding hasCell
-  has-parts = and-split (recordsFormed R) (ltb k (cellCount R)) e
+  -- its rails
+  module _ (e : railsTold ≡ true) where
+    pub rails-cell : k < cellCount R
+    rails-cell = ltb-true k (cellCount R) (and-split (leb (length R) 80) (ltb k (cellCount R)) e .1)
 
-  cell-there : k < cellCount R
-  cell-there = ltb-true k (cellCount R) (has-parts .1)
+    pub some-rails : record { upper = cellAt R k .upper; lower = cellAt R k .lower } ≡ cellRails R k
+    unfolding cellRails
+    some-rails = sym (cond-yes railsTold _ _ e)
 
-  pub records-there : RecordsHave R
-  records-there = records-have R (has-parts .0)
+  pub whole-part : k < cellCount R → partTo R (recordCount R) k ≡ cellAt R k
+  whole-part = part-all R k
 
-  pub whole-part : partTo R (recordCount R) k ≡ cellAt R k
-  whole-part = part-all R k cell-there
+  -- its rows
+  module _ (e : rowsTold ≡ true) where
+    told-parts : (cellsFit R ≡ true) × (ltb k (cellCount R) ≡ true)
+    told-parts = and-split (cellsFit R) (ltb k (cellCount R)) e
 
-  fits-there : fits 12 8 (sizeOf (cellAt R k)) ≡ true
-  unfolding cellFormed
-  fits-there = every-at (cellFormed R) (cellCount R) (records-there .cells) k cell-there
+    pub cells-told : (length R ≤ 80) × (every (cellCount R) (cellFormed R) ≡ true)
+    cells-told = fit-parts R (told-parts .0)
 
-  pub few-rails : cellAt R k .upper ≤ 12
-  unfolding sizeOf
-  few-rails = omega (arith, few-inputs (sizeOf (cellAt R k)) fits-there)
+    pub cell-told : k < cellCount R
+    cell-told = ltb-true k (cellCount R) (told-parts .1)
 
-  pub few-outs : length (cellAt R k .outs) + cellAt R k .lower ≤ 8
-  unfolding sizeOf
-  few-outs = few-outputs (sizeOf (cellAt R k)) fits-there
+    pub rails-told : railsTold ≡ true
+    rails-told = and-join (le-leb (length R) 80 (cells-told .0)) (told-parts .1)
 
-  pub some-rails : record { upper = cellAt R k .upper; lower = cellAt R k .lower } ≡ cellRails R k
-  unfolding cellRails
-  some-rails = sym (cond-yes (hasCell R k) _ _ e)
+    fits-at : (i : ℕ) → i < cellCount R → fits 12 8 (sizeOf (cellAt R i)) ≡ true
+    unfolding cellFormed
+    fits-at = every-at (cellFormed R) (cellCount R) (cells-told .1)
 
-  pub begin-there : cellPlace R k .at ≡ rowsBefore R k
-  unfolding cellPlace hasCell
-  begin-there = rw e refl
+    pub few-rails : cellAt R k .upper ≤ 12
+    unfolding sizeOf
+    few-rails = omega (arith, few-inputs (sizeOf (cellAt R k)) (fits-at k cell-told))
 
-  pub few-before : rowsBefore R k ≤ 32768
-  unfolding rowsBefore rowCount
-  few-before =
-      let l = cell-there in
-      let h = sum-fewer (λ i. rows (sizeOf (cellAt R i))) k (cellCount R) (omega arith) in
-      omega (arith, h, records-there .rows)
+    pub few-outs : length (cellAt R k .outs) + cellAt R k .lower ≤ 8
+    unfolding sizeOf
+    few-outs = few-outputs (sizeOf (cellAt R k)) (fits-at k cell-told)
 
-  pub some-row : (r w : ℕ) → r < 2 ^ cellAt R k .upper → rowsBefore R k + address r (cellAt R k .ins) w ≡ rowRead R k r w
-  unfolding rowRead rowPlace
-  some-row r w l =
-      sym (cond-yes (hasCell R k && ltb r (2 ^ cellAt R k .upper)) (rowPlace R k r w) 0 (and-join e (lt-ltb r (2 ^ cellAt R k .upper) l)))
+    pub few-before : rowsBefore R k ≤ 81920
+    unfolding rowsBefore rows
+    few-before =
+        let cells = cells-few R (recordCount R) in
+        let h =
+        sum-le (λ i. rows (sizeOf (cellAt R i))) (λ i. 4096) k
+        (λ i l. few-rows (sizeOf (cellAt R i)) (fits-at i (omega (arith, l, cell-told))))
+        in
+        omega (arith, h, sum-fixed k 4096, cell-told, cells-all R, cells, cells-told .0)
 
-  pub no-rail-word : (r w : ℕ) → 2 ^ cellAt R k .upper ≤ r → 0 ≡ rowRead R k r w
-  unfolding rowRead
-  no-rail-word r w l =
-      sym (cond-no (hasCell R k && ltb r (2 ^ cellAt R k .upper)) (rowPlace R k r w) 0 (ap₂ _&&_ e (le-ltb r (2 ^ cellAt R k .upper) l)))
+    pub some-row : (r w : ℕ) → r < 2 ^ cellAt R k .upper → rowsBefore R k + address r (cellAt R k .ins) w ≡ rowRead R k r w
+    unfolding rowRead rowPlace
+    some-row r w l =
+        sym (cond-yes (rowsTold && ltb r (2 ^ cellAt R k .upper)) (rowPlace R k r w) 0 (and-join e (lt-ltb r (2 ^ cellAt R k .upper) l)))
 
-  pub some-outputs : (x : ℕ) (outs : List ℕ) → outputsAfter (cellAt R k) outs x ≡ outputsRead R k x outs
-  unfolding outputsRead
-  some-outputs x outs = sym (cond-yes (hasCell R k) (outputsAfter (cellAt R k) outs x) outs e)
+    pub no-rail-word : (r w : ℕ) → 2 ^ cellAt R k .upper ≤ r → 0 ≡ rowRead R k r w
+    unfolding rowRead
+    no-rail-word r w l =
+        sym (cond-no (rowsTold && ltb r (2 ^ cellAt R k .upper)) (rowPlace R k r w) 0 (ap₂ _&&_ e (le-ltb r (2 ^ cellAt R k .upper) l)))
+
+  -- a cell of well formed records
+  module _ (e : hasCell R k ≡ true) where
+    has-parts : (recordsFormed R ≡ true) × (ltb k (cellCount R) ≡ true)
+    unfolding hasCell
+    has-parts = and-split (recordsFormed R) (ltb k (cellCount R)) e
+
+    pub rows-told : rowsTold ≡ true
+    rows-told = and-join (formed-fit R (has-parts .0)) (has-parts .1)
+
+    pub cell-there : k < cellCount R
+    cell-there = ltb-true k (cellCount R) (has-parts .1)
+
+    pub records-there : RecordsHave R
+    records-there = records-have R (has-parts .0)
+
+    pub some-outputs : (x : ℕ) (outs : List ℕ) → outputsAfter (cellAt R k) outs x ≡ outputsRead R k x outs
+    unfolding outputsRead
+    some-outputs x outs = sym (cond-yes (hasCell R k) (outputsAfter (cellAt R k) outs x) outs e)

@@ -1,50 +1,28 @@
 -- What cell k reads and sets, in a loop over stored records: one input or one output more.
 -- Assumes nothing.
 use mathlib.Core.Path.{_≡_, refl, sym, _∙_, ap}
-use mathlib.Core.Bool.{Bool, true, false, cond, not, _&&_, _||_}
+use mathlib.Core.Bool.{Bool, true, false, cond, not, _&&_}
 use mathlib.Core.List.{List, [], _∷_, _++_}
 use Prim.Native.Nat.{ℕ, zero, suc, _+_, _-_, _*_, _/_, _%_, _^_, _≤_, _<_}
 use native.Mathlib.Nat.{pow-suc}
 use native.Mathlib.Numerals.{add-one}
 use native.Mathlib.Omega.{arith}
-use lib.Dec.{eqb, leb, ltb}
+use lib.Dec.{eqb, ltb}
 use lib.ListN.{length, set, length-append, length-set}
 use lib.Pow.{shr-shr}
-use borrow.Author.Tests.{leb-true, ltb-true}
-use Rattle.laws.specs.Tests.{every, within}
 use Rattle.laws.specs.Bits.{bit}
 use Rattle.laws.proofs.Bits.{bit-lt}
-use Rattle.laws.proofs.Cases.{by-test, and-split, cond-both, last-or-below}
-use Rattle.stored.specs.Stored.{StoredCell, recordCount, variable, cutByte, railByte, lastByte, appended, cellAt, recordFormed}
+use Rattle.laws.proofs.Cases.{cond-both, last-or-below}
+use Rattle.stored.specs.Stored.{StoredCell, recordCount, variable, appended, cellAt}
 use Rattle.stored.specs.Run.{address, setOutputs, outputsAfter}
 use Rattle.stored.specs.Reads.{hasCell}
 use Rattle.stored.proofs.StoredCells.{cellsTo}
-use Rattle.stored.proofs.CellReads.{partTo, turn-ins, turn-outs, part-none, whole-part, records-there}
+use Rattle.stored.proofs.CellReads.{partTo, turn-ins, turn-outs, part-none, whole-part, cell-there}
 
 address-more : (is : List ℕ) (r i w : ℕ) → address r (is ++ (i ∷ [])) w ≡ address r is w * 2 + bit w i
 unfolding address
 address-more [] r i w = refl
 address-more (j ∷ is) r i w = address-more is (r * 2 + bit w j) i w
-
--- an input of a well formed record is 0 to 11
-input-small : (R : List ℕ) (i : ℕ) → recordFormed R i ≡ true → variable R i < 128 → variable R i ≤ 11
-unfolding recordFormed
-input-small R i e l =
-    let d = and-split _ (every i (λ k. not (eqb (variable R k) (variable R i)))) e .0 in
-    let c = and-split _ (eqb (lastByte R i) 0) d .0 in
-    let b = and-split _ (eqb (cutByte R i) 1 || eqb (railByte R i) 0) c .0 in
-    let a = and-split (leb (variable R i) 11 || within 128 135 (variable R i)) (leb (cutByte R i) 1) b .0 in
-    by-test (leb (variable R i) 11) (leb-true (variable R i) 11)
-    (λ f.
-    let w : within 128 135 (variable R i) ≡ true = sym (ap (λ (t : Bool). t || within 128 135 (variable R i)) f) ∙ a in
-    let h = leb-true 128 (variable R i) (and-split (leb 128 (variable R i)) (leb (variable R i) 135) w .0) in
-    absurd (omega (arith, h, l)))
-
-pub input-there : (R : List ℕ) (k : ℕ) → hasCell R k ≡ true → (i : ℕ) → i < recordCount R → (b : Bool) {v : ℕ} → v ≡ variable R i
-    → (b && ltb v 128) ≡ true → v ≤ 11
-input-there R k e i l b {v} p h =
-    let small = ltb-true v 128 (and-split b (ltb v 128) h .1) in
-    omega (arith, p, input-small R i (records-there R k e .each i l) (omega (arith, p, small)))
 
 -- an address with one input more has one more bit
 pub address-small : (i : ℕ) (t : Bool) (w v : ℕ) {a b : ℕ} → a < 2 ^ (i + 16) → b ≡ cond t (a * 2 + bit w v) a → b < 2 ^ (i + 1 + 16)
@@ -162,5 +140,5 @@ module _ (R : List ℕ) (k : ℕ) where
       let n = length (partTo R i k .outs) in
       let f = outs-next R i k here read ∙ ap (λ (b : Bool). cond b (n + 1) n) t in
       let h = outs-rise (i + 1) (recordCount R) (omega arith) in
-      let w = ap (λ (c : StoredCell). length (c .outs)) (whole-part R k there) in
+      let w = ap (λ (c : StoredCell). length (c .outs)) (whole-part R k (cell-there R k there)) in
       omega (arith, f, h, w, p)

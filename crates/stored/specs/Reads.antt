@@ -1,10 +1,13 @@
--- What a stepper needs of stored records, as the code answers it for any records: of cell k of well formed ones, else 0 or no change.
+-- What a stepper needs of stored records, as the code answers it for any records. Of those that are not well formed: the rails of a cell of at
+-- most 80 bytes, rows and the places of rows where besides all cells fit, else 0; and no output is set.
 -- Assumes nothing.
 use Prim.Native.Nat.{ℕ, _^_}
 use mathlib.Core.Bool.{Bool, cond, _&&_}
 use mathlib.Core.List.{List}
-use lib.Dec.{ltb}
-use Rattle.stored.specs.Stored.{recordsFormed, cellCount, cellAt, rowCount}
+use lib.Dec.{leb, ltb}
+use lib.ListN.{length}
+use Rattle.laws.specs.Tests.{every}
+use Rattle.stored.specs.Stored.{recordsFormed, cellCount, cellFormed, cellAt, rowCount}
 use Rattle.stored.specs.Run.{rowPlace, outputsAfter}
 pub use Rattle.stored.specs.declared.CellRails.{CellRails}
 
@@ -12,16 +15,22 @@ pub use Rattle.stored.specs.declared.CellRails.{CellRails}
 unfoldable pub hasCell : List ℕ → ℕ → Bool
 hasCell R k = recordsFormed R && ltb k (cellCount R)
 
+-- at most 80 bytes, whose cells have at most 12 inputs and 8 outputs: of these rows can be counted
+unfoldable pub cellsFit : List ℕ → Bool
+cellsFit R = leb (length R) 80 && every (cellCount R) (cellFormed R)
+
 unfoldable pub rowsCounted : List ℕ → ℕ
-rowsCounted R = cond (recordsFormed R) (rowCount R) 0
+rowsCounted R = cond (cellsFit R) (rowCount R) 0
 
 -- upper and lower rails
 unfoldable pub cellRails : List ℕ → ℕ → CellRails
-cellRails R k = cond (hasCell R k) (record { upper = cellAt R k .upper; lower = cellAt R k .lower }) (record { upper = 0; lower = 0 })
+cellRails R k =
+    cond (leb (length R) 80 && ltb k (cellCount R)) (record { upper = cellAt R k .upper; lower = cellAt R k .lower })
+    (record { upper = 0; lower = 0 })
 
 -- where the row stands that cell k reads for the rail word r, if that is one of its rail words, and the word w
 unfoldable pub rowRead : List ℕ → ℕ → ℕ → ℕ → ℕ
-rowRead R k r w = cond (hasCell R k && ltb r (2 ^ cellAt R k .upper)) (rowPlace R k r w) 0
+rowRead R k r w = cond (cellsFit R && ltb k (cellCount R) && ltb r (2 ^ cellAt R k .upper)) (rowPlace R k r w) 0
 
 -- the outputs after cell k has read the row x
 unfoldable pub outputsRead : List ℕ → ℕ → ℕ → List ℕ → List ℕ

@@ -118,7 +118,7 @@ fn cell_fits(cut: usize, inputs: usize, outputs: usize) -> bool
 }
 
 // Each cell has at most 12 inputs and 8 outputs.
-fn cells_fit(records: &[u8]) -> bool
+pub fn cells_fit(records: &[u8]) -> bool
     requires { do ⌜ (← ⟦records.len()⟧) ≤ 80 ⌝ }
     ensures { λ r. ⌜ r ≡ every (cellCount (now (records .entry))) (cellFormed (now (records .entry))) ⌝ }
 {
@@ -155,7 +155,7 @@ pub fn cell_rows(cut: usize, inputs: usize) -> usize
 }
 
 // The rows of all cells, each of which fits.
-fn rows_of(records: &[u8]) -> usize
+pub fn rows_of(records: &[u8]) -> usize
     requires { do ⌜ ((← ⟦records.len()⟧) ≤ 80) × (every (cellCount (now records)) (cellFormed (now records)) ≡ true) ⌝ }
     ensures { λ r. ⌜ r ≡ rowCount (now (records .entry)) ⌝ }
 {

@@ -123,21 +123,22 @@ pub fn cell_count(records: &[u8]) -> usize
     reads::count_cells(records)
 }
 
-// How many rows well formed records have, else 0.
+// How many rows the records have; 0 of more than 80 bytes, and where a cell is larger than the largest.
 pub fn row_count(records: &[u8]) -> usize
     ensures { λ r. ⌜ r ≡ rowsCounted (now (records .entry)) ⌝ }
 {
     reads::count_rows(records)
 }
 
-// The rails of cell k; 0 where the records are not well formed or have no such cell.
+// The rails of cell k; 0 of more than 80 bytes, and where there is no such cell.
 pub fn cell_rails(records: &[u8], k: usize) -> CellRails
     ensures { λ r. ⌜ r ≡ cellRails (now (records .entry)) k ⌝ }
 {
     reads::rails_of(records, k)
 }
 
-// Where the row stands that cell k reads for the rail word and the word of inputs; 0 where there is no such cell or rail word.
+// Where the row stands that cell k reads for the rail word and the word of inputs; 0 where rows can't be counted, and where there is no such cell
+// or rail word.
 pub fn row_read(records: &[u8], k: usize, rail: u16, word: u16) -> usize
     ensures { λ r. ⌜ r ≡ rowRead (now (records .entry)) k rail word ⌝ }
 {

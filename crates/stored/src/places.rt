@@ -1,7 +1,10 @@
 // Where the cells of stored records lie.
 ghost use mathlib.Core.Path.{_≡_};
 ghost use mathlib.Core.Bool.{true, cond};
-ghost use Rattle.stored.specs.Stored.{recordsFormed};
+ghost use Prim.Native.Nat.{_≤_, _<_};
+ghost use lib.ListN.{length};
+ghost use Rattle.laws.specs.Tests.{every};
+ghost use Rattle.stored.specs.Stored.{recordsFormed, cellCount, cellFormed, rowsBefore};
 ghost use Rattle.stored.specs.Places.{noPlace, cellPlace};
 use crate::CellPlace;
 use crate::casts::wide;
@@ -31,10 +34,11 @@ fn placed(ended: bool, new: CellPlace, old: CellPlace) -> CellPlace
     old
 }
 
-// The place of cell k of well formed records.
-fn find_place(records: &[u8], k: usize) -> CellPlace
-    requires { ⌜ recordsFormed (now records) ≡ true ⌝ }
-    ensures { λ r. ⌜ r ≡ cellPlace (now (records .entry)) k ⌝ }
+// The place of cell k of well formed records; of any whose cells fit, where its rows begin.
+pub fn find_place(records: &[u8], k: usize) -> CellPlace
+    requires { ⌜ (length (now records) ≤ 80) × (every (cellCount (now records)) (cellFormed (now records)) ≡ true) ⌝ }
+    ensures { λ r. ⌜ (recordsFormed (now (records .entry)) ≡ true → r ≡ cellPlace (now (records .entry)) k)
+        × (k < cellCount (now (records .entry)) → r .at ≡ rowsBefore (now (records .entry)) k) ⌝ }
 {
     let count = records.len() / 4;
     let mut place = no_place();

@@ -1,20 +1,22 @@
 // What a stepper needs of stored records: cells and rows counted, a cell's rails, the row that it reads, the outputs that it sets.
 ghost use mathlib.Core.Path.{_≡_};
-ghost use mathlib.Core.Bool.{true, cond};
+ghost use mathlib.Core.Bool.{true, cond, _&&_};
 ghost use Prim.Native.Nat.{_≤_, _<_, _+_, _-_, _*_, _^_};
+ghost use lib.Dec.{leb, ltb};
 ghost use lib.ListN.{length, set};
 ghost use Rattle.laws.specs.Bits.{bit};
 ghost use Rattle.stored.specs.Stored.{cellCount, cellAt};
 ghost use Rattle.stored.specs.Run.{address, outputsAfter};
-ghost use Rattle.stored.specs.Reads.{hasCell, rowsCounted, cellRails, rowRead, outputsRead};
+ghost use Rattle.stored.specs.Reads.{hasCell, cellsFit, rowsCounted, cellRails, rowRead, outputsRead};
 use crate::CellRails;
 use crate::casts::narrow;
 use crate::casts::power;
 use crate::casts::wide;
 use crate::formed::after;
+use crate::formed::cells_fit;
 use crate::formed::records_formed;
-use crate::formed::row_count;
-use crate::places::place_of;
+use crate::formed::rows_of;
+use crate::places::find_place;
 
 // How many cells any records have.
 pub fn count_cells(records: &[u8]) -> usize
@@ -31,12 +33,22 @@ pub fn count_cells(records: &[u8]) -> usize
     cells
 }
 
-// How many rows well formed records have, else 0.
+// At most 80 bytes, whose cells fit.
+fn few_fit(records: &[u8]) -> bool
+    ensures { λ r. ⌜ r ≡ cellsFit (now (records .entry)) ⌝ }
+{
+    if records.len() <= 80 {
+        return cells_fit(records);
+    }
+    false
+}
+
+// How many rows the records have; 0 where they can't be counted.
 pub fn count_rows(records: &[u8]) -> usize
     ensures { λ r. ⌜ r ≡ rowsCounted (now (records .entry)) ⌝ }
 {
-    if records_formed(records) {
-        return row_count(records);
+    if few_fit(records) {
+        return rows_of(records);
     }
     0
 }
@@ -46,6 +58,20 @@ fn has_cell(records: &[u8], k: usize) -> bool
     ensures { λ r. ⌜ r ≡ hasCell (now (records .entry)) k ⌝ }
 {
     records_formed(records) & (k < count_cells(records))
+}
+
+// At most 80 bytes, with a cell k.
+fn has_rails(records: &[u8], k: usize) -> bool
+    ensures { λ r. ⌜ r ≡ (leb (length (now (records .entry))) 80 && ltb k (cellCount (now (records .entry)))) ⌝ }
+{
+    (records.len() <= 80) & (k < count_cells(records))
+}
+
+// The rows of the records can be counted, and there is a cell k.
+fn has_rows(records: &[u8], k: usize) -> bool
+    ensures { λ r. ⌜ r ≡ (cellsFit (now (records .entry)) && ltb k (cellCount (now (records .entry)))) ⌝ }
+{
+    few_fit(records) & (k < count_cells(records))
 }
 
 // The new byte where the cell is the one that is sought, else the old one.
@@ -60,7 +86,7 @@ fn chosen(here: bool, new: u8, old: u8) -> u8
 
 // The rails of a cell k that there is.
 fn find_rails(records: &[u8], k: usize) -> CellRails
-    requires { ⌜ hasCell (now records) k ≡ true ⌝ }
+    requires { ⌜ (leb (length (now records)) 80 && ltb k (cellCount (now records))) ≡ true ⌝ }
     ensures { λ r. ⌜ r ≡ cellRails (now (records .entry)) k ⌝ }
 {
     let count = records.len() / 4;
@@ -79,11 +105,11 @@ fn find_rails(records: &[u8], k: usize) -> CellRails
     CellRails { upper, lower }
 }
 
-// The rails of cell k; 0 where the records are not well formed or have no such cell.
+// The rails of cell k; 0 of more than 80 bytes, and where there is no such cell.
 pub fn rails_of(records: &[u8], k: usize) -> CellRails
     ensures { λ r. ⌜ r ≡ cellRails (now (records .entry)) k ⌝ }
 {
-    if has_cell(records, k) {
+    if has_rails(records, k) {
         return find_rails(records, k);
     }
     CellRails { upper: 0, lower: 0 }
@@ -95,20 +121,31 @@ fn wide_word(x: u16) -> usize
     x as usize
 }
 
+// The bit v of a word.
+fn word_bit(word: usize, v: usize) -> usize
+    requires { ⌜ word < 65536 ⌝ }
+    ensures { λ r. ⌜ r ≡ bit word v ⌝ }
+{
+    if v < 16 {
+        return (word >> v) % 2;
+    }
+    0
+}
+
 // The address a with the bit v of the word, where v is an input of the cell that is sought.
 fn address_with(here: bool, a: usize, word: usize, v: usize) -> usize
-    requires { ⌜ (a < 2 ^ 36) × (here ≡ true → v ≤ 11) ⌝ }
+    requires { ⌜ (a < 2 ^ 36) × (word < 65536) ⌝ }
     ensures { λ r. ⌜ r ≡ cond here (a * 2 + bit word v) a ⌝ }
 {
     if here {
-        return a * 2 + (word >> v) % 2;
+        return a * 2 + word_bit(word, v);
     }
     a
 }
 
 // The row address in a cell k that there is.
 fn find_address(records: &[u8], k: usize, rail: usize, word: usize) -> usize
-    requires { ⌜ (hasCell (now records) k ≡ true) × (rail < 65536) ⌝ }
+    requires { ⌜ (length (now records) ≤ 80) × (k < cellCount (now records)) × (rail < 65536) × (word < 65536) ⌝ }
     ensures { λ r. ⌜ (r ≡ address rail (cellAt (now (records .entry)) k .ins) word) × (r < 2 ^ 36) ⌝ }
 {
     let count = records.len() / 4;
@@ -127,23 +164,23 @@ fn find_address(records: &[u8], k: usize, rail: usize, word: usize) -> usize
 
 // Of a cell k that there is: where the row stands that it reads; 0 where it has no such rail word.
 fn find_row(records: &[u8], k: usize, rail: usize, word: usize) -> usize
-    requires { ⌜ (hasCell (now records) k ≡ true) × (rail < 65536) ⌝ }
+    requires { ⌜ ((cellsFit (now records) && ltb k (cellCount (now records))) ≡ true) × (rail < 65536) × (word < 65536) ⌝ }
     ensures { λ r. ⌜ r ≡ rowRead (now (records .entry)) k rail word ⌝ }
 {
     let rails = find_rails(records, k);
     let limit = power(wide(rails.upper));
     if rail < limit {
-        let place = place_of(records, k);
+        let place = find_place(records, k);
         return place.at + find_address(records, k, rail, word);
     }
     0
 }
 
-// Where the row stands that cell k reads; 0 where there is no such cell or rail word.
+// Where the row stands that cell k reads; 0 where rows can't be counted, and where there is no such cell or rail word.
 pub fn row_of(records: &[u8], k: usize, rail: u16, word: u16) -> usize
     ensures { λ r. ⌜ r ≡ rowRead (now (records .entry)) k rail word ⌝ }
 {
-    if has_cell(records, k) {
+    if has_rows(records, k) {
         return find_row(records, k, wide_word(rail), wide_word(word));
     }
     0

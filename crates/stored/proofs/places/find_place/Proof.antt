@@ -1,4 +1,4 @@
--- `find_place` finds where cell k of well formed records lies.
+-- `find_place` finds where cell k lies.
 -- Assumes nothing.
 use mathlib.Core.Path.{_≡_, sym, _∙_, ap}
 use mathlib.Core.Bool.{cond}
@@ -9,10 +9,10 @@ use denote.Ref.{now}
 use Rattle.laws.proofs.Cases.{cond-both}
 use Rattle.sheet.specs.Job.{isInput}
 use Rattle.stored.specs.Stored.{recordCount}
+use Rattle.stored.specs.Places.{CellPlace}
 use Rattle.stored.proofs.StoredCells.{cellsTo, rowSum, begunOuts, moreOuts, next-outs, begin, cell-small}
 use Rattle.stored.proofs.CellsRead.{Begun, turn, none-begun, begun-small, few-now, inputs-now, turn-begun, turn-rows}
-use Rattle.stored.proofs.StoredParts.{records-have}
-use Rattle.stored.proofs.CellPlaces.{variableSum, placeIn, turn-cells, turn-top, turn-place, no-cells, place-all}
+use Rattle.stored.proofs.CellPlaces.{variableSum, placeIn, turn-cells, turn-top, turn-place, no-cells, place-all, begin-all}
 use native.Mathlib.Omega.{arith}
 use borrow.Author.Needs.{needs}
 use Rattle.stored.proofs.places.find_place.Statement.{statement}
@@ -82,7 +82,7 @@ wide-requires-3 c κs = search needs
 inputs-with-requires : tie.Need-inputs-with-requires Inv-loop μ-loop
 inputs-with-requires c κs =
     let l = c .before .before .before .before .before .before .before .loop in
-    let few = records-have (now (c .before .before .before .before .before .before .before .before .before .before .args .records)) (c .before .before .before .before .before .before .before .before .before .before .pre) .few in
+    let few = c .before .before .before .before .before .before .before .before .before .before .pre .0 in
     omega (arith, begun-small (l .inv .1) .0, l .inv .0, few)
 
 sub-bottom : tie.Need-sub-bottom Inv-loop μ-loop
@@ -101,10 +101,9 @@ add-cell-rows c =
     let a = c .before .before .before .before .before .before .before .before .before .before .before in
     let R = now (a .args .records) in
     let i = l .i in
-    let have = records-have R (a .pre) in
     let t = turn (l .inv .1) (w .ensures .0) (w2 .ensures .0) (w3 .ensures) (iw .ensures)
     (ap (λ (x : ℕ). cond (isInput x) (begunOuts R i) (begunOuts R i + 1)) (sym (w .ensures .0))) in
-    omega (arith, few-now t .0, l .inv .0, l .inv .1 .small, have .few)
+    omega (arith, few-now t .0, l .inv .0, l .inv .1 .small, a .pre .0)
 
 cell-rows-requires : tie.Need-cell-rows-requires Inv-loop μ-loop
 cell-rows-requires c κs =
@@ -116,18 +115,17 @@ cell-rows-requires c κs =
     let a = c .before .before .before .before .before .before .before .before .before .before .before in
     let R = now (a .args .records) in
     let i = l .i in
-    let have = records-have R (a .pre) in
     let t = turn (l .inv .1) (w .ensures .0) (w2 .ensures .0) (w3 .ensures) (iw .ensures)
     (ap (λ (x : ℕ). cond (isInput x) (begunOuts R i) (begunOuts R i + 1)) (sym (w .ensures .0))) in
     λ e.
     let less : i < recordCount R = c .before .before .before .before .before .before .before .loop-test .taken in
-    let h = cell-small R (have .cells) i less (sym (w2 .ensures .0) ∙ e) .0 in
+    let h = cell-small R (a .pre .1) i less (sym (w2 .ensures .0) ∙ e) .0 in
     omega (arith, inputs-now t, h)
 
 add-end : tie.Need-add-end Inv-loop μ-loop
 add-end c =
     let l = c .before .before .before .before .before .before .before .before .before .loop in
-    let few = records-have (now (c .before .before .before .before .before .before .before .before .before .before .before .before .args .records)) (c .before .before .before .before .before .before .before .before .before .before .before .before .pre) .few in
+    let few = c .before .before .before .before .before .before .before .before .before .before .before .before .pre .0 in
     omega (arith, l .inv .3, l .inv .0, c .cell-rows .ensures .1, few)
 
 placed-requires : tie.Need-placed-requires Inv-loop μ-loop
@@ -139,7 +137,7 @@ after-requires c κs = search needs
 add-cell : tie.Need-add-cell Inv-loop μ-loop
 add-cell c =
     let l = c .before .before .before .before .before .before .before .before .before .before .before .loop in
-    let few = records-have (now (c .before .before .before .before .before .before .before .before .before .before .before .before .before .before .args .records)) (c .before .before .before .before .before .before .before .before .before .before .before .before .before .before .pre) .few in
+    let few = c .before .before .before .before .before .before .before .before .before .before .before .before .before .before .pre .0 in
     let one = cond-both (λ (x : ℕ). x ≤ 1) (eqb (c .before .before .before .before .before .before .wide2 .result) 1) {x = 1} {y = 0} (omega arith) (omega arith) in
     omega (arith, l .inv .0, l .inv .5, c .after .ensures, one, few)
 
@@ -168,7 +166,6 @@ loop-again c =
     let a = c .before .before .before .before .before .before .before .before .before .before .before .before .before .before .before .before .before in
     let R = now (a .args .records) in
     let i = l .i in
-    let have = records-have R (a .pre) in
     let t = turn (l .inv .1) (w .ensures .0) (w2 .ensures .0) (w3 .ensures) (iw .ensures)
     (ap (λ (x : ℕ). cond (isInput x) (begunOuts R i) (begunOuts R i + 1)) (sym (w .ensures .0))) in
     let d = next-outs R i ∙ ap (λ (x : ℕ). cond (eqb x 1) 0 (moreOuts R i)) (sym (w2 .ensures .0)) in
@@ -190,7 +187,8 @@ returns c =
     let a = c .before .before .before .before in
     let R = now (a .args .records) in
     let e : c .before .loop .i ≡ recordCount R = omega arith in
-    (rw e at (c .before .loop .inv .7)) ∙ place-all R (a .args .k) (a .pre)
+    let p = rw e at (c .before .loop .inv .7) in
+    (λ h. p ∙ place-all R (a .args .k) h, λ l. ap (λ (q : CellPlace). q .at) p ∙ begin-all R (a .args .k) l)
 
 pub find-place-spec : {M : Type 1} → statement M
 find-place-spec =

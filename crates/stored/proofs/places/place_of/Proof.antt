@@ -2,7 +2,9 @@
 -- Assumes nothing.
 use mathlib.Core.Path.{sym, _∙_}
 use denote.Ref.{now}
+use Rattle.stored.proofs.StoredParts.{records-have}
 use Rattle.stored.proofs.CellPlaces.{place-none}
+use native.Mathlib.Omega.{arith}
 use borrow.Author.Needs.{needs}
 use Rattle.stored.proofs.places.place_of.Statement.{statement}
 use Rattle.stored.proofs.places.place_of.Tie as tie
@@ -11,10 +13,12 @@ records-formed-requires : tie.Need-records-formed-requires
 records-formed-requires c κs = search needs
 
 find-place-requires : tie.Need-find-place-requires
-find-place-requires c κs = sym (c .before .records-formed .ensures) ∙ c .if1 .taken
+find-place-requires c κs =
+    let h = records-have (now (c .before .before .before .args .records)) (sym (c .before .records-formed .ensures) ∙ c .if1 .taken) in
+    (omega (arith, h .whole, h .few), h .cells)
 
 returns : tie.Need-returns
-returns c = search needs
+returns c = c .find-place .ensures .0 (sym (c .before .before .records-formed .ensures) ∙ c .before .if1 .taken)
 
 no-place-requires : tie.Need-no-place-requires
 no-place-requires c κs = search needs

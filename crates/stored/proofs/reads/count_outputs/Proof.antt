@@ -7,7 +7,7 @@ use denote.Ref.{now}
 use Rattle.stored.specs.Stored.{StoredCell, recordCount}
 use Rattle.stored.proofs.StoredCells.{cellsTo}
 use Rattle.stored.proofs.CellPlaces.{turn-cells}
-use Rattle.stored.proofs.CellReads.{partTo, part-none, cells-none, few-cells, whole-part, records-there}
+use Rattle.stored.proofs.CellReads.{partTo, part-none, cells-none, few-cells, whole-part, cell-there, records-there}
 use Rattle.stored.proofs.RowBits.{outs-few, turn-count}
 use native.Mathlib.Omega.{arith}
 use borrow.Author.Needs.{needs}
@@ -85,7 +85,7 @@ returns c =
     let R = now (a .records) in
     let l = c .before .loop in
     let e : l .i ≡ recordCount R = omega arith in
-    (rw e at (l .inv .2)) ∙ ap (λ (d : StoredCell). length (d .outs)) (whole-part R (a .k) (c .before .before .before .pre))
+    (rw e at (l .inv .2)) ∙ ap (λ (d : StoredCell). length (d .outs)) (whole-part R (a .k) (cell-there R (a .k) (c .before .before .before .pre)))
 
 pub count-outputs-spec : {M : Type 1} → statement M
 count-outputs-spec =

@@ -11,8 +11,8 @@ use Rattle.stored.specs.Stored.{StoredCell, recordCount}
 use Rattle.stored.specs.Run.{address}
 use Rattle.stored.proofs.StoredCells.{cellsTo}
 use Rattle.stored.proofs.CellPlaces.{turn-cells}
-use Rattle.stored.proofs.CellReads.{partTo, cells-none, few-cells, whole-part, records-there}
-use Rattle.stored.proofs.RowBits.{no-inputs, input-there, address-small, turn-address}
+use Rattle.stored.proofs.CellReads.{partTo, cells-none, few-cells, whole-part}
+use Rattle.stored.proofs.RowBits.{no-inputs, address-small, turn-address}
 use native.Mathlib.Omega.{arith}
 use borrow.Author.Needs.{needs}
 use Rattle.stored.proofs.reads.find_address.Statement.{statement}
@@ -29,7 +29,7 @@ loop-holds : tie.Need-loop-holds Inv-loop μ-loop
 loop-holds c =
     let a = c .before .args in
     let R = now (a .records) in
-    (omega arith, cells-none R, sym (no-inputs R (a .k) (a .rail) (a .word)), c .before .pre .1)
+    (omega arith, cells-none R, sym (no-inputs R (a .k) (a .rail) (a .word)), c .before .pre .2)
 
 mul-wide : tie.Need-mul-wide Inv-loop μ-loop
 mul-wide c = search needs
@@ -56,12 +56,10 @@ address-with-requires : tie.Need-address-with-requires Inv-loop μ-loop
 address-with-requires c κs =
     let l = c .before .before .before .before .before .loop in
     let a = c .before .before .before .before .before .before .before .args in
-    let R = now (a .records) in
-    let there = c .before .before .before .before .before .before .before .pre .0 in
-    let less : l .i < recordCount R = c .before .before .before .before .loop-test .taken in
-    let few : l .i + 16 ≤ 36 = omega (arith, l .inv .0, records-there R (a .k) there .few) in
+    let pre = c .before .before .before .before .before .before .before .pre in
+    let few : l .i + 16 ≤ 36 = omega (arith, l .inv .0, pre .0) in
     let top : 2 ^ (l .i + 16) ≤ 2 ^ 36 = pow-mono few in
-    (omega (arith, l .inv .3, top), input-there R (a .k) there (l .i) less (eqb (l .cell) (a .k)) (c .before .before .wide .ensures .0))
+    (omega (arith, l .inv .3, top), pre .3)
 
 after-requires : tie.Need-after-requires Inv-loop μ-loop
 after-requires c κs = search needs
@@ -95,10 +93,10 @@ returns c =
     let a = c .before .before .before .args in
     let R = now (a .records) in
     let l = c .before .loop in
-    let there = c .before .before .before .pre .0 in
+    let pre = c .before .before .before .pre in
     let e : l .i ≡ recordCount R = omega arith in
-    let w = whole-part R (a .k) there in
-    let few : l .i + 16 ≤ 36 = omega (arith, e, records-there R (a .k) there .few) in
+    let w = whole-part R (a .k) (pre .1) in
+    let few : l .i + 16 ≤ 36 = omega (arith, e, pre .0) in
     let top : 2 ^ (l .i + 16) ≤ 2 ^ 36 = pow-mono few in
     ((rw e at (l .inv .2)) ∙ ap (λ (d : StoredCell). address (a .rail) (d .ins) (a .word)) w, omega (arith, l .inv .3, top))
 

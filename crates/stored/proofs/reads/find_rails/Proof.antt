@@ -7,7 +7,7 @@ use denote.Ref.{now}
 use Rattle.stored.specs.Stored.{StoredCell, recordCount}
 use Rattle.stored.proofs.StoredCells.{cellsTo}
 use Rattle.stored.proofs.CellPlaces.{turn-cells}
-use Rattle.stored.proofs.CellReads.{partTo, turn-upper, turn-lower, part-none, cells-none, few-cells, cells-few, whole-part, some-rails}
+use Rattle.stored.proofs.CellReads.{partTo, turn-upper, turn-lower, part-none, cells-none, few-cells, cells-few, whole-part, rails-cell, some-rails}
 use native.Mathlib.Omega.{arith}
 use borrow.Author.Needs.{needs}
 use Rattle.stored.proofs.reads.find_rails.Statement.{statement}
@@ -90,7 +90,7 @@ returns c =
     let R = now (a .records) in
     let l = c .before .loop in
     let e : l .i ≡ recordCount R = omega arith in
-    let w = whole-part R (a .k) (c .before .before .before .pre) in
+    let w = whole-part R (a .k) (rails-cell R (a .k) (c .before .before .before .pre)) in
     ap₂ (λ (x y : ℕ). record { upper = x; lower = y }) ((rw e at (l .inv .2)) ∙ ap (λ (d : StoredCell). d .upper) w)
     ((rw e at (l .inv .3)) ∙ ap (λ (d : StoredCell). d .lower) w)
     ∙ some-rails R (a .k) (c .before .before .before .pre)

@@ -7,7 +7,7 @@ use lib.ListN.{length}
 use denote.Ref.{now}
 use Rattle.stored.specs.Stored.{cellAt}
 use Rattle.stored.specs.Reads.{CellRails, outputsRead}
-use Rattle.stored.proofs.CellReads.{few-outs, some-rails, some-outputs, no-outputs}
+use Rattle.stored.proofs.CellReads.{few-outs, some-rails, rails-told, rows-told, some-outputs, no-outputs}
 use Rattle.stored.proofs.RowBits.{length-after}
 use native.Mathlib.Omega.{arith}
 use borrow.Author.Needs.{needs}
@@ -18,7 +18,10 @@ has-cell-requires : tie.Need-has-cell-requires
 has-cell-requires c κs = search needs
 
 find-rails-requires : tie.Need-find-rails-requires
-find-rails-requires c κs = sym (c .before .has-cell .ensures) ∙ c .if1 .taken
+find-rails-requires c κs =
+    let a = c .before .before .before .before .args in
+    let R = now (a .records) in
+    rails-told R (a .k) (rows-told R (a .k) (sym (c .before .has-cell .ensures) ∙ c .if1 .taken))
 
 count-outputs-requires : tie.Need-count-outputs-requires
 count-outputs-requires c κs = sym (c .before .before .has-cell .ensures) ∙ c .before .if1 .taken
@@ -30,7 +33,7 @@ add-first : tie.Need-add-first
 add-first c =
     let a = c .before .before .before .before .before .before .before .args in
     let there = sym (c .before .before .before .before .has-cell .ensures) ∙ c .before .before .before .if1 .taken in
-    let few = few-outs (now (a .records)) (a .k) there in
+    let few = few-outs (now (a .records)) (a .k) (rows-told (now (a .records)) (a .k) there) in
     omega (arith, c .wide .ensures .1, c .before .count-outputs .ensures, few)
 
 wide-requires-2 : tie.Need-wide-requires-2
@@ -41,7 +44,7 @@ store-outputs-requires c κs =
     let a = c .before .before .before .before .before .before .before .before .before .args in
     let R = now (a .records) in
     let there = sym (c .before .before .before .before .before .before .has-cell .ensures) ∙ c .before .before .before .before .before .if1 .taken in
-    let low = c .before .before .wide .ensures .0 ∙ ap (λ (r : CellRails). r .lower) (c .before .before .before .before .find-rails .ensures ∙ sym (some-rails R (a .k) there)) in
+    let low = c .before .before .wide .ensures .0 ∙ ap (λ (r : CellRails). r .lower) (c .before .before .before .before .find-rails .ensures ∙ sym (some-rails R (a .k) (rails-told R (a .k) (rows-told R (a .k) there)))) in
     (there, ap₂ (λ (x y : ℕ). x + y) (c .before .before .before .count-outputs .ensures) low)
 
 same-length : tie.Need-same-length

@@ -1,4 +1,4 @@
--- `row_of` finds where the row stands that a cell reads, of records well formed or not.
+-- `row_of` finds where the row stands that a cell reads, if there is such a cell.
 -- Assumes nothing.
 use mathlib.Core.Path.{sym, _∙_, ap₂}
 use Prim.Native.Nat.{ℕ}
@@ -9,8 +9,8 @@ use borrow.Author.Needs.{needs}
 use Rattle.stored.proofs.reads.row_of.Statement.{statement}
 use Rattle.stored.proofs.reads.row_of.Tie as tie
 
-has-cell-requires : tie.Need-has-cell-requires
-has-cell-requires c κs = search needs
+has-rows-requires : tie.Need-has-rows-requires
+has-rows-requires c κs = search needs
 
 wide-word-requires : tie.Need-wide-word-requires
 wide-word-requires c κs = search needs
@@ -19,7 +19,7 @@ wide-word-requires-2 : tie.Need-wide-word-requires-2
 wide-word-requires-2 c κs = search needs
 
 find-row-requires : tie.Need-find-row-requires
-find-row-requires c κs = (sym (c .before .before .before .has-cell .ensures) ∙ c .before .before .if1 .taken, c .before .wide-word .ensures .1)
+find-row-requires c κs = (sym (c .before .before .before .has-rows .ensures) ∙ c .before .before .if1 .taken, c .before .wide-word .ensures .1, c .wide-word2 .ensures .1)
 
 returns : tie.Need-returns
 returns c =
@@ -28,13 +28,13 @@ returns c =
     ∙ ap₂ (λ (x y : ℕ). rowRead (now (a .records)) (a .k) x y) (c .before .before .wide-word .ensures .0) (c .before .wide-word2 .ensures .0)
 
 returns-2 : tie.Need-returns-2
-returns-2 c = let a = c .before .before .before .args in no-row (now (a .records)) (a .k) (sym (c .before .has-cell .ensures) ∙ c .if1 .left) (a .rail) (a .word)
+returns-2 c = let a = c .before .before .before .args in no-row (now (a .records)) (a .k) (sym (c .before .has-rows .ensures) ∙ c .if1 .left) (a .rail) (a .word)
 
 pub row-of-spec : {M : Type 1} → statement M
 row-of-spec =
     tie.close
     (tie.spec
-    has-cell-requires
+    has-rows-requires
     wide-word-requires
     wide-word-requires-2
     find-row-requires

@@ -13,7 +13,7 @@ use Rattle.stored.specs.Stored.{StoredCell, recordCount, cellAt}
 use Rattle.stored.specs.Run.{setOutputs, outputsAfter}
 use Rattle.stored.proofs.StoredCells.{cellsTo}
 use Rattle.stored.proofs.CellPlaces.{turn-cells}
-use Rattle.stored.proofs.CellReads.{partTo, part-none, cells-none, few-cells, whole-part, few-outs}
+use Rattle.stored.proofs.CellReads.{partTo, part-none, cells-none, few-cells, whole-part, few-outs, cell-there, rows-told}
 use Rattle.stored.proofs.RowBits.{no-outputs-yet, length-outputs, some-left, turn-left, turn-outputs}
 use native.Mathlib.Omega.{arith}
 use borrow.Author.Needs.{needs}
@@ -74,7 +74,7 @@ put-bit-requires c κs =
     let some = some-left R (a .k) (pre .0) (l .i) (c .before .before .before .before .before .before .loop-test .taken) (l .inv .1) (v .ensures .0) (l .inv .2 ∙ pre .1) in
     let left = turn-left R (l .i) (a .k) (l .inv .1) (v .ensures .0) some (c .before .one-less .ensures) (l .inv .2) in (
       λ h. ltb-false (v .result) 128 (not-true (ltb (v .result) 128) (and-split (eqb (l .cell) (a .k)) (not (ltb (v .result) 128)) h .1)),
-      omega (arith, left, pre .1, few-outs R (a .k) (pre .0)),
+      omega (arith, left, pre .1, few-outs R (a .k) (rows-told R (a .k) (pre .0))),
     )
 
 after-requires : tie.Need-after-requires Inv-loop μ-loop
@@ -120,7 +120,7 @@ returns c =
     let R = now (a .records) in
     let pre = c .before .before .before .before .pre in
     let e : l .i ≡ recordCount R = omega arith in
-    let w = whole-part R (a .k) (pre .0) in
+    let w = whole-part R (a .k) (cell-there R (a .k) (pre .0)) in
     let n = (rw e at (l .inv .2)) in
     let m = ap (λ (d : StoredCell). length (d .outs)) w in
     let low : l .e ≡ cellAt R (a .k) .lower = omega (arith, n, m, pre .1) in
