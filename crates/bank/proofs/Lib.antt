@@ -23,3 +23,4 @@ pub mod Admits
 pub mod Latches
 pub mod NextRead
 pub mod StepCases
+pub mod UpperBits
