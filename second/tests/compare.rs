@@ -108,15 +108,15 @@ fn full_rows() {
 
 #[test]
 fn limits() {
-    reached(&compare(Family::LimitFewFree, 60), &[0, 8]);
-    reached(&compare(Family::LimitManyFree, 60), &[0]);
+    reached(&compare(Family::LimitFewFree, 25), &[0, 8]);
+    reached(&compare(Family::LimitManyFree, 25), &[0]);
 }
 
 #[test]
 fn columns() {
-    let most = compare(Family::Columns512, 40);
+    let most = compare(Family::Columns512, 15);
     assert!(!most.contains_key(&7), "{most:?}");
-    let over = compare(Family::Columns513, 60);
+    let over = compare(Family::Columns513, 20);
     assert_eq!(over.keys().collect::<Vec<_>>(), [&7]);
-    reached(&compare(Family::ColumnsAround, 40), &[7]);
+    reached(&compare(Family::ColumnsAround, 15), &[7]);
 }

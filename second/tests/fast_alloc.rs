@@ -3,16 +3,19 @@
 use second::fast::Compiler;
 use second::job::{Answer, Job, Lent, Node};
 use std::alloc::{GlobalAlloc, Layout, System};
-use std::sync::atomic::{AtomicUsize, Ordering};
+use std::cell::Cell;
 
-static ALLOCATED: AtomicUsize = AtomicUsize::new(0);
+thread_local! {
+    /// Of this thread alone: the test's harness allocates beside it.
+    static ALLOCATED: Cell<usize> = const { Cell::new(0) };
+}
 
 struct Counting;
 
 // SAFETY: all calls go on to the system allocator unchanged.
 unsafe impl GlobalAlloc for Counting {
     unsafe fn alloc(&self, layout: Layout) -> *mut u8 {
-        ALLOCATED.fetch_add(1, Ordering::SeqCst);
+        let _ = ALLOCATED.try_with(|count| count.set(count.get() + 1));
         System.alloc(layout)
     }
 
@@ -50,9 +53,9 @@ fn compile_allocates_nothing() {
             let [a, b] = value.to_le_bytes();
             job.sheet.extend([0xff, 0x0f, a, b, !one, one, 0, 0]);
         }
-        let before = ALLOCATED.load(Ordering::SeqCst);
+        let before = ALLOCATED.get();
         let answer = compiler.compile(&job, &mut lent);
-        assert_eq!(ALLOCATED.load(Ordering::SeqCst), before);
+        assert_eq!(ALLOCATED.get(), before);
         assert!(matches!(answer, Answer::Accepted(_)));
     }
 }
