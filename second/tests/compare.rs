@@ -71,22 +71,22 @@ fn reached(seen: &BTreeMap<u8, u64>, numbers: &[u8]) {
 
 #[test]
 fn small_few_free() {
-    reached(&compare(Family::SmallFewFree, 4_000), &[0, 8, 9, 10, 11]);
+    reached(&compare(Family::SmallFewFree, 3_500), &[0, 8, 9, 10, 11]);
 }
 
 #[test]
 fn small_many_free() {
-    reached(&compare(Family::SmallManyFree, 4_000), &[0, 9, 10, 11]);
+    reached(&compare(Family::SmallManyFree, 3_500), &[0, 9, 10, 11]);
 }
 
 #[test]
 fn small_orders() {
-    reached(&compare(Family::SmallOrders, 4_000), &[0, 8, 9, 10, 11]);
+    reached(&compare(Family::SmallOrders, 3_500), &[0, 8, 9, 10, 11]);
 }
 
 #[test]
 fn small_damaged() {
-    reached(&compare(Family::SmallDamaged, 6_000), &[1, 2, 3, 4, 5, 6]);
+    reached(&compare(Family::SmallDamaged, 5_500), &[1, 2, 3, 4, 5, 6]);
 }
 
 #[test]

@@ -82,7 +82,7 @@ fn lists_of_calls() {
     let mut random = Random::new(1, SEED, 0);
     let (mut lists, mut made) = (0, 0);
     let mut seen: BTreeMap<String, u64> = BTreeMap::new();
-    for index in 0..24_000 {
+    for index in 0..21_000 {
         let (limit, row_memory, list) = calls(SEED, index, &blocks(index));
         let rows = (0..row_memory).map(|_| random.next() as u8).collect();
         let mut second = Panel::new(limit, rows);
@@ -152,7 +152,7 @@ fn damaged_states() {
     let mut random = Random::new(2, SEED, 0);
     let mut seen: BTreeMap<String, u64> = BTreeMap::new();
     let mut states = 0;
-    for index in 0..24_000 {
+    for index in 0..21_000 {
         let blocks = blocks(index % 6_000);
         let (limit, row_memory, list) = calls(SEED, index, &blocks);
         let rows = (0..row_memory).map(|_| random.next() as u8).collect();
