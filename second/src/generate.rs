@@ -9,7 +9,7 @@ mod random;
 mod sheet;
 mod wide;
 
-pub use blocks::{block, compiled, damage, StoredBlock};
+pub use blocks::{block, compiled, compiled_with_totals, damage, StoredBlock};
 pub use calls::calls;
 pub use damaged::Fault;
 pub use random::Random;

@@ -1,25 +1,10 @@
 //! What holds of every accepted job: emitted outputs are allowed, rails are the fewest, the stored form survives.
 
-use second::generate::{job, Family};
-use second::job::{Answer, Job, Lent, Node, Totals};
-use second::{fast, stored};
+use second::generate::{compiled_with_totals, job, Family};
+use second::job::{Job, Totals};
+use second::stored;
 
 const SEED: u64 = 2014;
-
-/// The bytes of an accepted job's cascade, and its totals.
-fn compiled(job: &Job) -> Option<(Totals, Vec<u8>, Vec<u8>)> {
-    let mut lent = Lent {
-        nodes: vec![Node::default(); 10_240],
-        records: vec![0; 80],
-        rows: vec![0; 32_768],
-    };
-    let Answer::Accepted(totals) = fast::compile(job, &mut lent) else {
-        return None;
-    };
-    lent.records.truncate(4 * job.order.len());
-    lent.rows.truncate(totals.rows);
-    Some((totals, lent.records, lent.rows))
-}
 
 /// What the sheet forces for a word: outputs forced to 0, and to 1.
 fn forced(job: &Job, word: u16) -> (u8, u8) {
@@ -74,7 +59,7 @@ fn check(family: Family, jobs: u64) {
     let mut accepted = 0;
     for index in 0..jobs {
         let job = job(family, SEED, index);
-        if let Some((totals, records, rows)) = compiled(&job) {
+        if let Some((totals, (records, rows))) = compiled_with_totals(&job) {
             allowed(&job, &records, &rows);
             rails_are_fewest(&totals, &records);
             survives(&records, &rows);

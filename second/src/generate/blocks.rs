@@ -2,7 +2,7 @@
 
 use super::random::Random;
 use crate::fast;
-use crate::job::{Answer, Job, Lent, Node};
+use crate::job::{Answer, Job, Lent, Node, Totals};
 
 /// Records and rows.
 pub type StoredBlock = (Vec<u8>, Vec<u8>);
@@ -149,8 +149,8 @@ pub fn damage(seed: u64, index: u64, block: &StoredBlock) -> StoredBlock {
     }
 }
 
-/// The block that the compiler writes for a job; None where it refuses.
-pub fn compiled(job: &Job) -> Option<StoredBlock> {
+/// The totals and the block that the compiler gives for a job; None where it refuses.
+pub fn compiled_with_totals(job: &Job) -> Option<(Totals, StoredBlock)> {
     let mut lent = Lent {
         nodes: vec![Node::default(); 10_240],
         records: vec![0; 80],
@@ -161,5 +161,10 @@ pub fn compiled(job: &Job) -> Option<StoredBlock> {
     };
     lent.records.truncate(4 * job.order.len());
     lent.rows.truncate(totals.rows);
-    Some((lent.records, lent.rows))
+    Some((totals, (lent.records, lent.rows)))
+}
+
+/// The block alone.
+pub fn compiled(job: &Job) -> Option<StoredBlock> {
+    compiled_with_totals(job).map(|(_, block)| block)
 }
