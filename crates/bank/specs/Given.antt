@@ -3,12 +3,12 @@
 use Prim.Native.Nat.{ℕ}
 use mathlib.Core.Bool.{cond}
 use mathlib.Core.List.{List}
-use Rattle.bank.specs.State.{State, Bank, Scan, emptyBank, atRest, limitRefused}
-use Rattle.bank.specs.Calls.{After, numbered, StepAnswer, answerOf}
+use Rattle.bank_spec.specs.State.{State, emptyBank, atRest, limitRefused, stateOf}
+use Rattle.bank_spec.specs.declared.Bank.{Bank}
+use Rattle.bank_spec.specs.declared.Scan.{Scan}
+use Rattle.bank_spec.specs.Calls.{After, numbered, answerOf}
+use Rattle.bank_spec.specs.declared.StepAnswer.{StepAnswer}
 pub use Rattle.bank.specs.declared.Started.{Started}
-
-abbrev pub stateOf : Bank → Scan → List ℕ → State
-stateOf k s rows = record { bank = k; scan = s; rows = rows }
 
 -- admission and latch answer a number, 0 where they accept
 abbrev pub givenNumber : ℕ → Bank → Scan → List ℕ → After State

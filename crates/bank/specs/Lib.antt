@@ -1,8 +1,2 @@
--- The bank layer's definitions.
-pub mod State
-pub mod Calls
+-- What the functions of `bank` cite.
 pub mod Given
-pub mod Book
-pub mod Lists
-pub mod Demand3
-pub mod Opened

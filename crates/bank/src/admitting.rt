@@ -3,17 +3,18 @@ ghost use mathlib.Core.Path.{_≡_};
 ghost use Prim.Native.Nat.{_≤_, _<_, _+_, _*_};
 ghost use lib.ListN.{length, getD};
 ghost use Rattle.laws.specs.Lists.{putsAt};
-ghost use Rattle.bank.specs.State.{emptyBank, atRest};
-ghost use Rattle.bank.specs.Calls.{withBlock, admit};
-ghost use Rattle.bank.specs.Given.{stateOf, givenNumber, started};
+ghost use Rattle.bank_spec.specs.State.{emptyBank, atRest};
+ghost use Rattle.bank_spec.specs.Calls.{withBlock, admit};
+ghost use Rattle.bank_spec.specs.State.{stateOf};
+ghost use Rattle.bank.specs.Given.{givenNumber, started};
 use crate::Admitted;
-use crate::Bank;
-use crate::Scan;
 use crate::Started;
 use crate::formed::cells_before;
 use crate::formed::rows_before;
 use crate::formed::state_formed;
 use crate::formed::wide;
+use bank_spec::Bank;
+use bank_spec::Scan;
 
 fn empty_bank(limit: u16) -> Bank
     ensures { λ r. ⌜ r ≡ emptyBank limit ⌝ }

@@ -4,10 +4,10 @@ ghost use mathlib.Core.Bool.{true, _&&_};
 ghost use Prim.Native.Nat.{ℕ, _≤_, _<_, _^_};
 ghost use lib.Dec.{ltb};
 ghost use Rattle.laws.specs.Tests.{every};
-ghost use Rattle.stored.specs.Stored.{cellCount, cellAt, rowCount};
-ghost use Rattle.bank.specs.State.{recordsOf, blockFormed, cellsBefore, rowsBefore, bankFormed, scanFormed, formed};
-use crate::Bank;
-use crate::Scan;
+ghost use Rattle.stored_spec.specs.StoredForm.{cellCount, cellAt, rowCount};
+ghost use Rattle.bank_spec.specs.State.{recordsOf, blockFormed, cellsBefore, rowsBefore, bankFormed, scanFormed, formed};
+use bank_spec::Bank;
+use bank_spec::Scan;
 
 pub fn wide(x: u8) -> usize
     ensures { λ r. ⌜ (r ≡ x) × (r < 256) ⌝ }

@@ -2,13 +2,14 @@
 ghost use mathlib.Core.Path.{_≡_};
 ghost use mathlib.Core.List.{List};
 ghost use Prim.Native.Nat.{ℕ, _≤_};
-ghost use Rattle.bank.specs.Calls.{wordsKept, latched, latch};
-ghost use Rattle.bank.specs.Given.{stateOf, givenNumber};
-use crate::Bank;
+ghost use Rattle.bank_spec.specs.Calls.{wordsKept, latched, latch};
+ghost use Rattle.bank_spec.specs.State.{stateOf};
+ghost use Rattle.bank.specs.Given.{givenNumber};
 use crate::Latched;
-use crate::Scan;
 use crate::formed::state_formed;
 use crate::formed::wide;
+use bank_spec::Bank;
+use bank_spec::Scan;
 
 // The words of the blocks held, bits above 11 left out.
 fn words_kept(bank: Bank, words: [u16; 8]) -> [u16; 8]

@@ -8,35 +8,13 @@ mod stepping;
 ghost use mathlib.Core.Path.{_≡_};
 ghost use mathlib.Core.List.{List};
 ghost use Prim.Native.Nat.{ℕ};
-ghost use Rattle.bank.specs.State.{formed};
-ghost use Rattle.bank.specs.Calls.{admit, latch, step};
-ghost use Rattle.bank.specs.Given.{stateOf, givenNumber, givenAnswer, started};
-
-// A bank: the scan limit S, how many blocks are held, the number of records of each, and their records, 80 bytes a place.
-pub struct Bank {
-    pub limit: u16,
-    pub count: u8,
-    pub lengths: [u8; 8],
-    pub records: [u8; 640],
-}
-
-// A scan state: whether reads are left, the block, cell and rail word of the next read, the latched word of each place, and the
-// outputs, 8 a place: 0 or 1 where set, else 2.
-pub struct Scan {
-    pub running: bool,
-    pub block: u8,
-    pub cell: u8,
-    pub rail: u16,
-    pub words: [u16; 8],
-    pub outputs: [u8; 64],
-}
-
-// What a step answers: the block and the cell that it read, that there is nothing to read, or the number of its refusal.
-pub enum StepAnswer {
-    Went(u8, u8),
-    Idle,
-    Refused(u8),
-}
+ghost use Rattle.bank_spec.specs.State.{formed};
+ghost use Rattle.bank_spec.specs.Calls.{admit, latch, step};
+ghost use Rattle.bank_spec.specs.State.{stateOf};
+ghost use Rattle.bank.specs.Given.{givenNumber, givenAnswer, started};
+use bank_spec::Bank;
+use bank_spec::Scan;
+use bank_spec::StepAnswer;
 
 // A new bank and its fresh scan state; refusal 1 where S is out of range.
 pub struct Started {

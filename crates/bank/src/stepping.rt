@@ -5,18 +5,19 @@ ghost use Prim.Native.Nat.{_≤_, _+_, _*_, _%_, _^_};
 ghost use lib.Dec.{ltb};
 ghost use lib.ListN.{length};
 ghost use Rattle.laws.specs.Lists.{written};
-ghost use Rattle.stored.specs.Stored.{cellCount, cellAt};
-ghost use Rattle.stored.specs.Run.{outputsAfter, railAfter};
-ghost use Rattle.bank.specs.State.{recordsOf, rowsHeld, formed};
-ghost use Rattle.bank.specs.Calls.{nextRow, outputsOf, moved, step};
-ghost use Rattle.bank.specs.Given.{stateOf, givenAnswer};
-use crate::Bank;
-use crate::Scan;
-use crate::StepAnswer;
+ghost use Rattle.stored_spec.specs.StoredForm.{cellCount, cellAt};
+ghost use Rattle.stored_spec.specs.Run.{outputsAfter, railAfter};
+ghost use Rattle.bank_spec.specs.State.{recordsOf, rowsHeld, formed};
+ghost use Rattle.bank_spec.specs.Calls.{nextRow, outputsOf, moved, step};
+ghost use Rattle.bank_spec.specs.State.{stateOf};
+ghost use Rattle.bank.specs.Given.{givenAnswer};
 use crate::Stepped;
 use crate::formed::rows_before;
 use crate::formed::state_formed;
 use crate::formed::wide;
+use bank_spec::Bank;
+use bank_spec::Scan;
+use bank_spec::StepAnswer;
 
 // The row that the next cell reads.
 fn next_row(bank: Bank, scan: Scan, rows: &[u8]) -> u8

@@ -18,7 +18,8 @@ use Rattle.laws.proofs.Filled.{length-written, written-sets, written-none, writ
 use Rattle.laws.proofs.Puts.{putsAt-sets}
 use Rattle.call_text.specs.Words.{begins, decimal, isNumber, isHex, hexByte, isBytes, bytesOf}
 use Rattle.call_text.specs.Lines.{Line, lineOf, low, high, bankLine, wordPlace, isWordByte, latchLine, spaceIn, admitLine, stepWord, bankWord, latchWord, admitWord, memoryWord, lineIn}
-use Rattle.call_text.proofs.WordLaws.{within-ends, bytes-short, bank-long, latch-long, admit-long}
+use Rattle.laws.proofs.Tests.{within-has}
+use Rattle.call_text.proofs.WordLaws.{bytes-short, bank-long, latch-long, admit-long}
 
 -- what is written one after another
 pub set-written : (l : List ℕ) (at v : ℕ) → at < length l → set l at v ≡ written l at (v ∷ [])
@@ -144,7 +145,7 @@ bytes-fit l h =
     (λ e.
     let (p, q) = and-split (within 1 131071 (length l) && eqb (length l % 2) 0) (every (length l) (isHex l)) (rw e at h) in
     let (r, s) = and-split (within 1 131071 (length l)) (eqb (length l % 2) 0) p in
-    let ends = within-ends 1 131071 (length l) r in
+    let ends = within-has 1 131071 (length l) r in
     let even = eqb-true (length l % 2) 0 s in
     omega arith) in
     (half, omega (arith, bytes-short l h))

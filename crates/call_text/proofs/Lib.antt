@@ -1,4 +1,4 @@
--- The laws of calls written as text.
-pub mod WordLaws
-pub mod LineLaws
-pub mod CallLaws
+-- Laws that more than one source file needs, or that other crates may cite: those are `pub`. Laws of one source file stand in its folder.
+mod CallLaws
+mod LineLaws
+mod WordLaws

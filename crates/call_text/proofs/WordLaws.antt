@@ -12,14 +12,10 @@ use lib.Dec.{eqb, leb, ltb}
 use lib.ListN.{length, getD, List·getD-eq-default}
 use borrow.Author.Tests.{eqb-true, leb-true, ltb-true}
 use Rattle.laws.specs.Tests.{every, within}
+use Rattle.laws.proofs.Tests.{within-has, every-at}
 use Rattle.laws.proofs.Cases.{by-test, by-less, and-split}
-use Rattle.laws.proofs.Tests.{every-next, every-at}
 use Rattle.call_text.specs.Words.{begins, isDigit, decimalTo, isNumber, hexDigit, isHex, isBytes}
 use Rattle.call_text.specs.Lines.{bankWord, latchWord, admitWord, memoryWord}
-
--- one turn of a loop that tests all numbers below its bound
-pub every-step : (f : ℕ → Bool) (i : ℕ) {a b : Bool} → a ≡ every i f → b ≡ f i → (a && b) ≡ every (i + 1) f
-every-step f i p q = ap₂ _&&_ p q ∙ sym (every-next f i)
 
 -- a text that begins with a word of bytes that are not 0 is at least as long
 pub begins-long : (word l : List ℕ) → every (length word) (λ i. ltb 0 (getD word i 0)) ≡ true → begins word l ≡ true → length word ≤ length l
@@ -45,14 +41,10 @@ admit-long l = begins-long admitWord l refl
 pub memory-long : (l : List ℕ) → begins memoryWord l ≡ true → length memoryWord ≤ length l
 memory-long l = begins-long memoryWord l refl
 
--- the ends of a test of a range
-pub within-ends : (a b x : ℕ) → within a b x ≡ true → (a ≤ x) × (x ≤ b)
-within-ends a b x e = let p = and-split (leb a x) (leb x b) e in (leb-true a x (p .0), leb-true x b (p .1))
-
 -- a digit is from 48 to 57
 pub digit-ends : (l : List ℕ) (i : ℕ) → isDigit l i ≡ true → (48 ≤ getD l i 0) × (getD l i 0 ≤ 57)
 unfolding isDigit
-digit-ends l i = within-ends 48 57 (getD l i 0)
+digit-ends l i = within-has 48 57 (getD l i 0)
 
 -- one digit more
 pub decimal-next : (l : List ℕ) (n : ℕ) → decimalTo l (n + 1) ≡ 10 * decimalTo l n + (getD l n 0 - 48)
@@ -63,7 +55,7 @@ decimal-next l n = rw add-one refl
 module _ (l : List ℕ) (h : isNumber l ≡ true) where
   number-tests : (length l ≤ 5) × (every (length l) (isDigit l) ≡ true)
   unfolding isNumber
-  number-tests = let p = and-split (within 1 5 (length l)) (every (length l) (isDigit l)) h in (within-ends 1 5 (length l) (p .0) .1, p .1)
+  number-tests = let p = and-split (within 1 5 (length l)) (every (length l) (isDigit l)) h in (within-has 1 5 (length l) (p .0) .1, p .1)
 
   pub number-digit : (i : ℕ) → i < length l → isDigit l i ≡ true
   number-digit = every-at (isDigit l) (length l) (number-tests .1)
@@ -97,7 +89,7 @@ module _ (l : List ℕ) (h : isBytes l ≡ true) where
   unfolding isBytes none
   hex-tests e =
       let (p, q) = and-split (within 1 131071 (length l) && eqb (length l % 2) 0) (every (length l) (isHex l)) (rw e at h) in
-      (within-ends 1 131071 (length l) (and-split (within 1 131071 (length l)) (eqb (length l % 2) 0) p .0) .1, q)
+      (within-has 1 131071 (length l) (and-split (within 1 131071 (length l)) (eqb (length l % 2) 0) p .0) .1, q)
 
   none-length : none l ≡ true → length l ≡ 1
   unfolding none

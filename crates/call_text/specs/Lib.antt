@@ -1,4 +1,4 @@
--- The definitions of calls written as text.
-pub mod Words
+-- What the functions of `call_text` cite.
 pub mod Lines
 pub mod Opened
+pub mod Words

@@ -1,2 +1,2 @@
--- The case table, proved.
+-- Laws that more than one source file needs, or that other crates may cite: those are `pub`. Laws of one source file stand in its folder.
 pub mod Table

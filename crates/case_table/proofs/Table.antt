@@ -1,10 +1,10 @@
 -- The case table of document 01, proved: each case by computing with the definitions.
 -- Assumes nothing.
 use mathlib.Core.Path.{refl}
-use Rattle.sheet.specs.Opened.{sheetOpened}
-use Rattle.reduction.specs.Opened.{reductionOpened}
-use Rattle.cutting.specs.Opened.{cuttingOpened}
-use Rattle.bank.specs.Opened.{bankOpened}
+use Rattle.sheet_spec.specs.Opened.{sheetOpened}
+use Rattle.reduction_spec.specs.Opened.{reductionOpened}
+use Rattle.cutting_spec.specs.Opened.{cuttingOpened}
+use Rattle.bank_spec.specs.Opened.{bankOpened}
 use Rattle.case_table.specs.Table.{CaseTable}
 
 pub case-table : CaseTable

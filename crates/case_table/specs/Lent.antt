@@ -3,9 +3,9 @@
 use Prim.Native.Nat.{ℕ}
 use mathlib.Core.List.{List}
 use lib.ListN.{replicate}
-use Rattle.sheet.specs.Job.{Job}
-use Rattle.reduction.specs.declared.Node.{Node}
-use Rattle.cutting.specs.Compile.{Compiled, compile}
+use Rattle.sheet_spec.specs.Job.{Job}
+use Rattle.reduction_spec.specs.declared.Node.{Node}
+use Rattle.cutting_spec.specs.Compile.{Compiled, compile}
 
 abbrev pub node : ℕ → ℕ → ℕ → Node
 node h l r = record { height = h; low = l; high = r }

@@ -1,4 +1,4 @@
--- The case table: the memory lent, the results, and what it says.
+-- What the functions of `case_table` cite.
 pub mod Lent
 pub mod Results
 pub mod Table

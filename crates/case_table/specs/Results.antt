@@ -2,9 +2,9 @@
 -- Assumes nothing.
 use Prim.Native.Nat.{ℕ}
 use mathlib.Core.List.{List, [], _∷_}
-use Rattle.reduction.specs.declared.Node.{Node}
-use Rattle.cutting.specs.Compile.{Compiled, refused, accepted}
-use Rattle.cutting.specs.Example.{recordsA, rowsA}
+use Rattle.reduction_spec.specs.declared.Node.{Node}
+use Rattle.cutting_spec.specs.Compile.{Compiled, refused, accepted}
+use Rattle.cutting_spec.specs.Example.{recordsA, rowsA}
 use Rattle.case_table.specs.Lent.{node, oldNodes, oldBytes}
 
 -- T's 15 nodes, the same for A, B and C

@@ -4,15 +4,15 @@ use mathlib.Core.Path.{_≡_}
 use mathlib.Core.List.{List, [], _∷_, _++_}
 use Prim.Native.Nat.{ℕ}
 use lib.ListN.{replicate}
-use Rattle.sheet.specs.Table.{table}
-use Rattle.cutting.specs.Compile.{made}
-use Rattle.cutting.specs.Listing.{listing}
-use Rattle.bank.specs.State.{fresh}
-use Rattle.bank.specs.Calls.{Answer, accepted, refused}
-use Rattle.bank.specs.Book.{newBook}
-use Rattle.bank.specs.Lists.{Call, admission, Entry, trace, bookTrace, stateAfter}
-use Rattle.sheet.specs.Example.{T, fullT, jobT, jobF, clashing}
-use Rattle.cutting.specs.Example.{recordsA, rowsA}
+use Rattle.sheet_spec.specs.Table.{table}
+use Rattle.cutting_spec.specs.Compile.{made}
+use Rattle.cutting_spec.specs.Listing.{listing}
+use Rattle.bank_spec.specs.State.{fresh}
+use Rattle.bank_spec.specs.Calls.{Answer, accepted, refused}
+use Rattle.bank_spec.specs.Book.{newBook}
+use Rattle.bank_spec.specs.CallLists.{Call, admission, Entry, trace, bookTrace, stateAfter}
+use Rattle.sheet_spec.specs.Example.{T, fullT, jobT, jobF, clashing}
+use Rattle.cutting_spec.specs.Example.{recordsA, rowsA}
 use Rattle.case_table.specs.Lent.{oldBytes, lending}
 use Rattle.case_table.specs.Results.{resultA, listingA, resultB, resultC, resultF, refusedWith}
 

@@ -9,23 +9,23 @@ use borrow.Author.Tests.{leb-true}
 use lib.Dec.{eqb}
 use lib.ListN.{length}
 use Rattle.laws.proofs.Cases.{by-test, by-equal, cond-both, and-split}
-use Rattle.sheet.specs.Job.{Job}
-use Rattle.sheet.specs.Refusals.{refuse1, refuse2, refuse3, refuse4, refuse5, refuse6, sheetRefusal}
-use Rattle.sheet.specs.Table.{table}
-use Rattle.reduction.specs.Columns.{layers}
-use Rattle.reduction.specs.Merge.{reduced, refuse7}
-use Rattle.reduction.specs.Diagram.{nodeWords}
-use Rattle.reduction.specs.Reduction.{reductionRefusal}
-use Rattle.reduction.proofs.NodeTable.{length-nodeWords}
-use Rattle.reduction.proofs.Refined.{nodes-fit}
-use Rattle.reduction.proofs.Copied.{accepted, narrow, few-variables}
-use Rattle.stored.specs.Cells.{allFit, rowTotal}
-use Rattle.cutting.specs.Cuts.{cellsOf}
-use Rattle.cutting.specs.Choice.{admissible, refuse8}
-use Rattle.cutting.specs.Compile.{widthsOf, made}
+use Rattle.sheet_spec.specs.Job.{Job}
+use Rattle.sheet_spec.specs.Refusals.{refuse1, refuse2, refuse3, refuse4, refuse5, refuse6, sheetRefusal}
+use Rattle.sheet_spec.specs.Table.{table}
+use Rattle.reduction_spec.specs.Columns.{layers}
+use Rattle.reduction_spec.specs.Merge.{reduced, refuse7}
+use Rattle.reduction_spec.specs.Diagram.{nodeWords}
+use Rattle.reduction_spec.specs.Reduction.{reductionRefusal}
+use Rattle.reduction_spec.proofs.NodeWords.{length-nodeWords}
+use Rattle.reduction_spec.proofs.AcceptedSheet.{nodes-fit}
+use Rattle.reduction_spec.proofs.LentAfter.{accepted, narrow, few-variables}
+use Rattle.stored_spec.specs.Cells.{allFit, rowTotal}
+use Rattle.cutting_spec.specs.Cuts.{cellsOf}
+use Rattle.cutting_spec.specs.Choice.{admissible, refuse8}
+use Rattle.cutting_spec.specs.Compile.{widthsOf, made}
 use Rattle.cutting.specs.Outcome.{Outcome, outcome}
-use Rattle.cutting.proofs.StoredCuts.{rows-total}
-use Rattle.cutting.proofs.ChosenCuts.{chosen-admissible}
+use Rattle.cutting_spec.proofs.StoredCuts.{rows-total}
+use Rattle.cutting_spec.proofs.ChosenCuts.{chosen-admissible}
 use Rattle.cutting.proofs.Outcomes.{outcome-early, outcome-8, outcome-accepted}
 
 module _ (j : Job) (s : List ℕ) where

@@ -1,31 +1,4 @@
--- The cutting layer's laws.
-pub mod StoredCuts
-pub mod RailCounts
-pub mod OrderHeights
-pub mod CellRead
-pub mod RowRead
-pub mod Emits
-pub mod StoredWell
-pub mod ChosenCuts
-pub mod MadeCascade
-pub mod Examples
-pub mod RowWalks
-pub mod RowSteps
-pub mod BlockRows
-pub mod RowsWritten
-pub mod RowsStored
-pub mod RowLimit
-pub mod CutLists
-pub mod Better
-pub mod Ways
-pub mod WaysChosen
-pub mod ChoiceSteps
-pub mod PlannedRows
-pub mod Planned
-pub mod Outcomes
-pub mod RecordsWritten
-pub mod Demand2
-pub mod Plans
-pub mod Assembled
-pub mod ListedCells
+-- Laws that more than one source file needs, or that other crates may cite: those are `pub`. Laws of one source file stand in its folder.
 pub mod Enough
+pub mod ListedCells
+pub mod Outcomes

@@ -13,22 +13,21 @@ use borrow.Author.Tests.{lt-ltb}
 use Rattle.laws.specs.Tests.{every, sum}
 use Rattle.laws.proofs.Cases.{and-split, and-join, cond-yes}
 use Rattle.laws.proofs.Counts.{sum-front}
-use Rattle.sheet.specs.Job.{Job, t}
-use Rattle.sheet.specs.Refusals.{sheetRefusal}
-use Rattle.sheet.specs.Table.{table}
-use Rattle.sheet.proofs.Orders.{ins-rise, outs-rise}
-use Rattle.cutting.specs.Cuts.{CutList, cellBetween}
-use Rattle.stored.specs.Cells.{rows}
-use Rattle.cutting.specs.Choice.{refuse8}
-use Rattle.stored.specs.Stored.{cellAt, cellCount, rowCount, rowsBefore, recordsFormed, rowsFormed, wellFormed}
-use Rattle.cutting.specs.StoredForm.{stored}
-use Rattle.cutting.specs.Compile.{made}
-use Rattle.cutting.specs.Listing.{cellLines}
+use Rattle.sheet_spec.specs.Job.{Job, t}
+use Rattle.sheet_spec.specs.Refusals.{sheetRefusal}
+use Rattle.sheet_spec.specs.Table.{table}
+use Rattle.sheet_spec.proofs.Orders.{ins-rise, outs-rise}
+use Rattle.cutting_spec.specs.Cuts.{CutList, cellBetween}
+use Rattle.stored_spec.specs.Cells.{rows}
+use Rattle.cutting_spec.specs.Choice.{refuse8}
+use Rattle.stored_spec.specs.StoredForm.{cellAt, cellCount, rowCount, rowsBefore, recordsFormed, rowsFormed, wellFormed, stored}
+use Rattle.cutting_spec.specs.Compile.{made}
+use Rattle.cutting_spec.specs.Listing.{cellLines}
 use Rattle.stored.specs.declared.CellPlace.{CellPlace}
 use Rattle.stored.specs.Places.{variablesOf, heightAbove, cellPlace}
-use Rattle.cutting.proofs.RowLimit.{ins-outs}
-use Rattle.cutting.proofs.StoredCuts.{storedBetween, between-ins, between-outs, record-count, cuts-fall, cuts-first, cell-at, cell-count, rows-before}
-use Rattle.cutting.proofs.MadeCascade.{made-cuts, made-count, made-formed}
+use Rattle.cutting_spec.proofs.RowLimit.{ins-outs}
+use Rattle.cutting_spec.proofs.StoredCuts.{storedBetween, between-ins, between-outs, record-count, cuts-fall, cuts-first, cell-at, cell-count, rows-before}
+use Rattle.cutting_spec.proofs.MadeCascade.{made-cuts, made-count, made-formed}
 use Rattle.stored.proofs.CellPlaces.{between, between-same}
 
 -- the variables between two cuts

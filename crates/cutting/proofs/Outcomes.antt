@@ -9,14 +9,14 @@ use lib.Dec.{eqb, ltb}
 use lib.ListN.{length}
 use Rattle.laws.specs.Lists.{written}
 use Rattle.laws.proofs.Cases.{by-test, by-equal, cond-yes, cond-no}
-use Rattle.sheet.specs.Job.{Job, t}
-use Rattle.sheet.specs.Refusals.{sheetRefusal}
-use Rattle.sheet.specs.Table.{table}
-use Rattle.reduction.specs.Merge.{refuse7}
-use Rattle.reduction.specs.Diagram.{nodeWords}
-use Rattle.reduction.specs.Reduction.{reductionRefusal}
-use Rattle.cutting.specs.Choice.{refuse8}
-use Rattle.cutting.specs.Compile.{Made, made, totals, refused, accepted, CompiledAs, refusal, acceptance, lend, reduce, compileAs, compileWords}
+use Rattle.sheet_spec.specs.Job.{Job, t}
+use Rattle.sheet_spec.specs.Refusals.{sheetRefusal}
+use Rattle.sheet_spec.specs.Table.{table}
+use Rattle.reduction_spec.specs.Merge.{refuse7}
+use Rattle.reduction_spec.specs.Diagram.{nodeWords}
+use Rattle.reduction_spec.specs.Reduction.{reductionRefusal}
+use Rattle.cutting_spec.specs.Choice.{refuse8}
+use Rattle.cutting_spec.specs.Compile.{Made, made, totals, refused, accepted, CompiledAs, refusal, acceptance, lend, reduce, compileAs, compileWords}
 use Rattle.cutting.specs.Outcome.{answered, outcomeOf, shown, outcome}
 
 module _ (nodes records rows : List ℕ) (j : Job) (s : List ℕ) where

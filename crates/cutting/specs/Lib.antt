@@ -1,13 +1,5 @@
--- The cutting layer's definitions.
-pub mod Cuts
-pub mod Choice
-pub mod Ways
-pub mod Rows
-pub mod RowWalks
-pub mod StoredForm
-pub mod Compile
-pub mod Parts
+-- What the functions of `cutting` cite.
 pub mod Outcome
-pub mod Listing
-pub mod Example
-pub mod Opened
+pub mod Plan
+pub mod RowWalks
+pub mod Ways

@@ -4,8 +4,8 @@ use Prim.Native.Nat.{ℕ}
 use mathlib.Core.List.{List}
 use lib.ListN.{replicate}
 use Rattle.laws.specs.Lists.{written}
-use Rattle.sheet.specs.Job.{Job}
-use Rattle.cutting.specs.Compile.{Answer, refused, accepted, CompiledAs, compileWords}
+use Rattle.sheet_spec.specs.Job.{Job}
+use Rattle.cutting_spec.specs.Compile.{Answer, refused, accepted, CompiledAs, compileWords}
 pub use Rattle.cutting.specs.declared.Compilation.{Compilation}
 
 -- a refusal is its number alone; on acceptance the number is 0 and 20 places hold the widths at the heights 0 to t - 1, then zeros

@@ -4,10 +4,10 @@ use Prim.Native.Nat.{ℕ, _+_, _-_, _*_, _/_, _%_, _^_}
 use mathlib.Core.Bool.{cond}
 use mathlib.Core.List.{List}
 use lib.Dec.{eqb, ltb}
-use Rattle.sheet.specs.Job.{Job}
-use Rattle.reduction.specs.Diagram.{nodesAbove}
-use Rattle.reduction.specs.declared.Reached.{Reached}
-use Rattle.reduction.specs.Descent.{descent}
+use Rattle.sheet_spec.specs.Job.{Job}
+use Rattle.reduction_spec.specs.Diagram.{nodesAbove}
+use Rattle.reduction_spec.specs.declared.Reached.{Reached}
+use Rattle.reduction_spec.specs.Descent.{descent}
 
 -- the node of column 0 at height h; below height 1 it is constant 1
 unfoldable pub firstAt : Job → List (List ℕ) → ℕ → ℕ

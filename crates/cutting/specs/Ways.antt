@@ -5,10 +5,10 @@ use mathlib.Core.Bool.{Bool, cond, _&&_, _||_}
 use mathlib.Core.List.{List, [], _∷_, _++_}
 use lib.Dec.{eqb, ltb}
 use lib.ListN.{getD}
-use Rattle.sheet.specs.Job.{Job}
-use Rattle.stored.specs.declared.Cell.{Cell}
-use Rattle.stored.specs.Cells.{cell, fits, bits}
-use Rattle.cutting.specs.Cuts.{cellBetween}
+use Rattle.sheet_spec.specs.Job.{Job}
+use Rattle.stored_spec.specs.declared.Cell.{Cell}
+use Rattle.stored_spec.specs.Cells.{cell, fits, bits}
+use Rattle.cutting_spec.specs.Cuts.{cellBetween}
 pub use Rattle.cutting.specs.declared.choice.Way.{Way}
 
 -- a way by its number of cuts, the bits of its cells and the next cut. No way has 0 cuts; the way from 0 has one, and no cell

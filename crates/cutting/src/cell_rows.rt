@@ -6,9 +6,9 @@ ghost use lib.Dec.{eqb, leb};
 ghost use lib.ListN.{length, getD};
 ghost use Rattle.laws.specs.Lists.{putsAt};
 ghost use Rattle.laws.specs.Bits.{has};
-ghost use Rattle.sheet.specs.Job.{isInput};
-ghost use Rattle.reduction.specs.Walk.{lowOf, highOf};
-ghost use Rattle.reduction.specs.Descent.{descend};
+ghost use Rattle.sheet_spec.specs.Job.{isInput};
+ghost use Rattle.reduction_spec.specs.Walk.{lowOf, highOf};
+ghost use Rattle.reduction_spec.specs.Descent.{descend};
 ghost use Rattle.cutting.specs.RowWalks.{rowFrom, nodeRow, walkedRow};
 use crate::casts::wide as wide8;
 

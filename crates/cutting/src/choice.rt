@@ -9,7 +9,7 @@ use crate::casts::less;
 use crate::casts::narrow;
 use crate::casts::power;
 use crate::casts::wide;
-use stored::Cell;
+use stored_spec::Cell;
 
 // The best way from a height: its number of cuts, the bits of its cells, and the next cut below. No cuts: there is no way.
 pub struct Way {

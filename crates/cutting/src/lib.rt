@@ -3,13 +3,13 @@ mod casts;
 mod cell_rows;
 mod cells;
 mod choice;
+mod compiler;
 mod plan;
 mod records;
-mod whole;
 
 ghost use mathlib.Core.Path.{_≡_};
-ghost use Rattle.sheet.specs.Job.{job};
-ghost use Rattle.cutting.specs.Cuts.{rails};
+ghost use Rattle.sheet_spec.specs.Job.{job};
+ghost use Rattle.stored_spec.specs.Rails.{rails};
 ghost use Rattle.cutting.specs.Outcome.{outcomeOf, outcome};
 use crate::casts::narrow;
 use crate::casts::wide16;
@@ -42,7 +42,7 @@ pub fn compile(
         ⌜ outcomeOf r (now (nodes .exit)) (now (records .exit)) (now (rows .exit))
         ≡ outcome (now (nodes .entry)) (now (records .entry)) (now (rows .entry)) (job n m k l (now (order .entry))) (now (sheet .entry)) ⌝ }
 {
-    whole::make(n, m, k, l, order, sheet, nodes, records, rows)
+    compiler::compile_all(n, m, k, l, order, sheet, nodes, records, rows)
 }
 
 // The rails at a cut of this width: the least r with 2^r at least w.

@@ -7,7 +7,7 @@ ghost use lib.ListN.{length, getD};
 ghost use lib.Seq.{sets};
 ghost use Rattle.laws.specs.Lists.{joined, puts};
 ghost use Rattle.laws.specs.Bits.{flag};
-ghost use Rattle.cutting.specs.Parts.{isCut, recordIn};
+ghost use Rattle.cutting.specs.Plan.{isCut, recordIn};
 use crate::casts::wide;
 
 // g is one of the first count cuts.

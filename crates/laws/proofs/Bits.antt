@@ -1,7 +1,7 @@
 -- Laws of single bits: of and and or, of a number read bit by bit, and of numbers equal on a mask.
 -- Assumes nothing.
 use mathlib.Core.Path.{_≡_, refl, sym, _∙_, ap, ap₂}
-use mathlib.Core.Bool.{Bool, true, false, _&&_, _||_}
+use mathlib.Core.Bool.{Bool, true, false, _&&_, _||_, not}
 use Prim.Native.Nat.{ℕ, zero, suc, _+_, _-_, _*_, _/_, _%_, _^_, _<_, _≤_}
 use native.Mathlib.Nat.{mod-lt, add-zero, div-add-mod', div-one, zero-div, pow-suc, div-eq-of-lt, div-lt-iff-lt-mul, one-mul}
 use native.Mathlib.Omega.{arith}
@@ -11,6 +11,8 @@ use lib.Pow.{pow-pos, shr-shr, pow-mono, high, split, shl-lt}
 use borrow.Author.Tests.{lt-ltb, le-ltb, eq-eqb, ne-eqb}
 use Rattle.laws.specs.Bits.{bit, has, flag}
 use Rattle.laws.proofs.Cases.{by-less, by-equal}
+use Rattle.laws.specs.Tests.{any}
+use Rattle.laws.proofs.Tests.{any-next}
 
 pub bit-lt : (w i : ℕ) → bit w i < 2
 bit-lt w i = mod-lt (w / 2 ^ i) (omega arith)
@@ -162,3 +164,28 @@ has-byte p q j k hp hk =
     let past : 8 + q * 8 ≤ j * 8 + k = omega arith in
     has-past (p * 2 ^ (q * 8)) (8 + q * 8) (j * 8 + k) (shl-lt 8 (q * 8) hp) past
     ∙ sym (ap (λ (t : Bool). t && has p k) (ne-eqb q j n))))
+
+-- flags by bits
+pub or-flag : (a b : Bool) → bitOr (flag a) (flag b) ≡ flag (a || b)
+or-flag true true = refl
+or-flag true false = refl
+or-flag false true = refl
+or-flag false false = refl
+
+pub any-flag : (f : ℕ → Bool) (i a b : ℕ) → a ≡ flag (any i f) → b ≡ flag (f i) → bitOr a b ≡ flag (any (i + 1) f)
+any-flag f i a b p q = ap₂ bitOr p q ∙ or-flag (any i f) (f i) ∙ ap flag (sym (any-next f i))
+
+-- flags by bits
+pub and-flag : (a b : Bool) → bitAnd (flag a) (flag b) ≡ flag (a && b)
+and-flag true true = refl
+and-flag true false = refl
+and-flag false true = refl
+and-flag false false = refl
+
+pub flag-none : (b : Bool) → not (eqb (flag b) 0) ≡ b
+flag-none true = refl
+flag-none false = refl
+
+pub flag-zero : (b : Bool) → flag b ≡ 0 → b ≡ false
+flag-zero true e = absurd (omega arith)
+flag-zero false e = refl

@@ -1,14 +1,15 @@
--- The shared laws.
+-- Laws of lists, tests, counts, bits and numbers.
+pub mod Bits
 pub mod Cases
-pub mod Tests
 pub mod Counts
-pub mod Picked
+pub mod DifferentWords
+pub mod Filled
 pub mod Find
 pub mod Lists
-pub mod Filled
-pub mod Puts
-pub mod Bits
-pub mod Powers
+pub mod Marks
 pub mod Masks
 pub mod Parts
-pub mod DifferentWords
+pub mod Picked
+pub mod Powers
+pub mod Puts
+pub mod Tests

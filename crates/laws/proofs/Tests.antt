@@ -1,4 +1,4 @@
--- Laws of `every` and `any`.
+-- Laws of `every`, `any` and `within`.
 -- Assumes nothing.
 use mathlib.Core.Path.{_≡_, refl, sym, _∙_, ap, ap₂}
 use mathlib.Core.Bool.{Bool, true, false, not, _&&_, _||_, or-true, or-false, or-assoc, false≢true, true≢false}
@@ -6,9 +6,9 @@ use Prim.Native.Nat.{ℕ, zero, suc, _+_, _<_, _≤_}
 use native.Mathlib.Nat.{not-suc-le-zero}
 use native.Mathlib.Numerals.{add-one}
 use native.Mathlib.Omega.{arith}
-use lib.Dec.{eqb, ltb}
-use borrow.Author.Tests.{eqb-true, eq-eqb, ltb-true, lt-ltb}
-use Rattle.laws.specs.Tests.{every, any}
+use lib.Dec.{eqb, ltb, leb}
+use borrow.Author.Tests.{eqb-true, eq-eqb, ltb-true, lt-ltb, leb-true, le-leb, lt-leb}
+use Rattle.laws.specs.Tests.{every, any, within}
 use Rattle.laws.proofs.Cases.{by-test, last-or-below, and-split, and-join, same-test}
 
 module _ (f : ℕ → Bool) where
@@ -111,3 +111,31 @@ pub any-front : (f : ℕ → Bool) (n : ℕ) → any (suc n) f ≡ (f 0 || any n
 any-front f zero = sym (or-false (f 0))
 any-front f (suc n) =
     ap (λ (b : Bool). b || f (suc n)) (any-front f n) ∙ or-assoc (f 0) (any n (λ i. f (suc i))) (f (suc n))
+
+-- one turn of a loop that tests all, or any, of the numbers below its bound
+module _ (f : ℕ → Bool) (i : ℕ) {a b : Bool} where
+  pub every-step : a ≡ every i f → b ≡ f i → (a && b) ≡ every (i + 1) f
+  every-step p q = ap₂ _&&_ p q ∙ sym (every-next f i)
+
+  pub any-step : a ≡ any i f → b ≡ f i → (a || b) ≡ any (i + 1) f
+  any-step p q = ap₂ _||_ p q ∙ sym (any-next f i)
+
+pub every-more : (f : ℕ → Bool) (i : ℕ) → every i f ≡ true → f i ≡ true → every (i + 1) f ≡ true
+every-more f i p q = every-next f i ∙ and-join p q
+
+-- a number between two
+pub within-yes : (a b x : ℕ) → a ≤ x → x ≤ b → within a b x ≡ true
+within-yes a b x l m = ap₂ _&&_ (le-leb a x l) (le-leb x b m)
+
+pub within-low : (a b x : ℕ) → x < a → within a b x ≡ false
+within-low a b x l = rw (lt-leb a x l) refl
+
+pub within-high : (a b x : ℕ) → b < x → within a b x ≡ false
+within-high a b x l = rw (lt-leb x b l) (and-no (leb a x))
+  where
+    and-no : (t : Bool) → (t && false) ≡ false
+    and-no true = refl
+    and-no false = refl
+
+pub within-has : (a b x : ℕ) → within a b x ≡ true → (a ≤ x) × (x ≤ b)
+within-has a b x e = let h = and-split (leb a x) (leb x b) e in (leb-true a x (h .0), leb-true x b (h .1))

@@ -6,7 +6,7 @@ use Prim.Native.Nat.{ℕ, _+_, _-_, min}
 use native.Mathlib.Omega.{arith}
 use lib.ListN.{length, take, drop}
 use Rattle.laws.proofs.Parts.{part-ends, rest-ends}
-use Rattle.sheet.specs.Job.{job}
+use Rattle.sheet_spec.specs.Job.{job}
 use Rattle.cutting.specs.Outcome.{Outcome, outcome}
 use Rattle.listing.specs.Split.{number, variables, orderOf, sheetOf, jobOf}
 

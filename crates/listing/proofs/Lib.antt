@@ -1,3 +1,3 @@
--- The listing's laws.
-pub mod InputParts
+-- Laws that more than one source file needs, or that other crates may cite: those are `pub`. Laws of one source file stand in its folder.
+mod InputParts
 pub mod LongInput

@@ -10,10 +10,10 @@ use lib.Dec.{eqb}
 use lib.ListN.{length, getD, take, drop, take-append-drop, length-drop}
 use lib.Seq.{length-take-le, take-all, take-append-le, drop-append-le, getD-take}
 use Rattle.laws.proofs.Cases.{by-less, cond-yes, cond-no, cond-both}
-use Rattle.sheet.specs.Job.{Job}
-use Rattle.sheet.specs.Refusals.{refuse1, refuse2, refuse3, sheetRefusal}
-use Rattle.reduction.specs.Reduction.{reductionRefusal}
-use Rattle.cutting.specs.Compile.{refused}
+use Rattle.sheet_spec.specs.Job.{Job}
+use Rattle.sheet_spec.specs.Refusals.{refuse1, refuse2, refuse3, sheetRefusal}
+use Rattle.reduction_spec.specs.Reduction.{reductionRefusal}
+use Rattle.cutting_spec.specs.Compile.{refused}
 use Rattle.cutting.specs.Outcome.{answered, outcomeOf, outcome}
 use Rattle.cutting.proofs.Outcomes.{outcome-early}
 use Rattle.listing.specs.Split.{number, variables, orderOf, sheetOf, jobOf}

@@ -1,2 +1,2 @@
--- The listing's definitions.
+-- What the functions of `listing` cite.
 pub mod Split

@@ -3,7 +3,7 @@
 use Prim.Native.Nat.{ℕ, _+_}
 use mathlib.Core.List.{List}
 use lib.ListN.{getD, take, drop}
-use Rattle.sheet.specs.Job.{Job, job}
+use Rattle.sheet_spec.specs.Job.{Job, job}
 
 -- n, m, K, L: a byte each, 0 where input has ended
 abbrev pub number : List ℕ → ℕ → ℕ

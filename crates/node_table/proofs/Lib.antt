@@ -1,5 +1,3 @@
--- Laws of the table of node records.
-pub mod Again
-pub mod Alike
-pub mod Lent
-pub mod LocalWords
+-- Laws that more than one source file needs, or that other crates may cite: those are `pub`. Laws of one source file stand in its folder.
+mod LocalWords
+mod WordsAndNodes

@@ -1,2 +1,2 @@
--- Definitions of the table of node records.
+-- What the functions of `node_table` cite.
 pub mod Nodes

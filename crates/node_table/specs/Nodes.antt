@@ -5,8 +5,8 @@ use mathlib.Core.Bool.{cond}
 use mathlib.Core.List.{List}
 use lib.Dec.{ltb}
 use lib.ListN.{getD}
-use Rattle.reduction.specs.Diagram.{node}
-use Rattle.reduction.specs.declared.Node.{Node}
+use Rattle.reduction_spec.specs.Diagram.{node}
+use Rattle.reduction_spec.specs.declared.Node.{Node}
 
 -- where there is none
 abbrev pub noNode : Node

@@ -4,14 +4,14 @@ mod words;
 
 ghost use mathlib.Core.Path.{_≡_};
 ghost use lib.ListN.{getD};
-ghost use Rattle.sheet.specs.Job.{job};
-ghost use Rattle.cutting.specs.Compile.{compile};
+ghost use Rattle.sheet_spec.specs.Job.{job};
+ghost use Rattle.cutting_spec.specs.Compile.{compile};
 ghost use Rattle.cutting.specs.Outcome.{answered};
 ghost use Rattle.node_table.specs.Nodes.{noNode};
 use crate::nodes::fill;
 use crate::words::compile_words;
 use cutting::Compilation;
-use reduction::Node;
+use reduction_spec::Node;
 
 // The compiler over a table of node records: as cutting's, which has three words a node.
 pub fn compile(

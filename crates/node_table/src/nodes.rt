@@ -4,7 +4,7 @@ ghost use Prim.Native.Nat.{_+_, _*_, _<_, _≤_};
 ghost use lib.ListN.{length, set};
 ghost use Rattle.laws.specs.Lists.{puts};
 ghost use Rattle.node_table.specs.Nodes.{nodeIn};
-use reduction::Node;
+use reduction_spec::Node;
 
 // Stores one node.
 fn store_node(nodes: &mut [Node], i: usize, node: Node)

@@ -2,7 +2,7 @@
 ghost use mathlib.Core.Path.{_≡_};
 ghost use Prim.Native.Nat.{_≤_};
 ghost use lib.ListN.{length, take};
-ghost use Rattle.sheet.specs.Job.{job};
+ghost use Rattle.sheet_spec.specs.Job.{job};
 ghost use Rattle.cutting.specs.Outcome.{outcomeOf, outcome};
 ghost use Rattle.node_table.specs.Nodes.{wordsFor};
 use cutting::Compilation;

@@ -1,3 +1,2 @@
--- The panel's laws.
-pub mod StateLaws
-pub mod Lent
+-- Laws that more than one source file needs, or that other crates may cite: those are `pub`. Laws of one source file stand in its folder.
+mod LentBytes

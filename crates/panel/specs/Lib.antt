@@ -1,3 +1,3 @@
--- The panel's definitions.
+-- What the functions of `panel` cite.
 pub mod Exported
 pub mod StateBytes

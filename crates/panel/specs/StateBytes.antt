@@ -9,11 +9,10 @@ use lib.Dec.{eqb}
 use lib.ListN.{getD}
 use Rattle.laws.specs.Bits.{flag}
 use Rattle.laws.specs.Lists.{tab, puts}
-use Rattle.bank.specs.declared.Bank.{Bank}
-use Rattle.bank.specs.declared.Scan.{Scan}
-use Rattle.bank.specs.State.{State, emptyBank, atRest, limitRefused}
-use Rattle.bank.specs.Calls.{Answer, accepted, refused, idle, went, After}
-use Rattle.bank.specs.Given.{stateOf}
+use Rattle.bank_spec.specs.declared.Bank.{Bank}
+use Rattle.bank_spec.specs.declared.Scan.{Scan}
+use Rattle.bank_spec.specs.State.{State, emptyBank, atRest, limitRefused, stateOf}
+use Rattle.bank_spec.specs.Calls.{Answer, accepted, refused, idle, went, After}
 pub use Rattle.panel.specs.declared.StepNumbers.{StepNumbers}
 
 -- the number in the two bytes at place i

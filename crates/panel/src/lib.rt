@@ -4,22 +4,22 @@ mod state_bytes;
 ghost use mathlib.Core.Path.{_≡_};
 ghost use mathlib.Core.List.{[]};
 ghost use lib.ListN.{getD};
-ghost use Rattle.sheet.specs.Job.{job};
-ghost use Rattle.sheet.specs.Refusals.{sheetRefusal};
-ghost use Rattle.sheet.specs.Table.{tableAfter};
-ghost use Rattle.reduction.specs.Reduction.{reduction, widthsAfter, wordsAfter};
+ghost use Rattle.sheet_spec.specs.Job.{job};
+ghost use Rattle.sheet_spec.specs.Refusals.{sheetRefusal};
+ghost use Rattle.sheet_spec.specs.Table.{tableAfter};
+ghost use Rattle.reduction_spec.specs.Reduction.{reduction, widthsAfter, wordsAfter};
 ghost use Rattle.laws.specs.Lists.{puts};
 ghost use Rattle.cutting.specs.Outcome.{outcome};
-ghost use Rattle.bank.specs.Calls.{admit, latch, step};
+ghost use Rattle.bank_spec.specs.Calls.{admit, latch, step};
 ghost use Rattle.panel.specs.Exported.{totalsOf, widthsLent};
 ghost use Rattle.panel.specs.StateBytes.{stateIn, bankLent, scanLent, made, numberOf, stepNumbers};
 use crate::state_bytes::bank_in;
 use crate::state_bytes::put_bank;
 use crate::state_bytes::put_scan;
 use crate::state_bytes::scan_in;
-use bank::StepAnswer;
+use bank_spec::StepAnswer;
 use cutting::Compilation;
-use reduction::Reduction;
+use reduction_spec::Reduction;
 
 // The compiler's answer: a refusal, 1 to 11, or 0 and the totals.
 #[repr(C)]

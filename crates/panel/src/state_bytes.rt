@@ -5,8 +5,8 @@ ghost use lib.ListN.{getD};
 ghost use Rattle.laws.specs.Bits.{flag};
 ghost use Rattle.laws.specs.Lists.{tab, puts, putsAt};
 ghost use Rattle.panel.specs.StateBytes.{pairAt, bankIn, scanIn, bankBytes, wordByte, scanBytes};
-use bank::Bank;
-use bank::Scan;
+use bank_spec::Bank;
+use bank_spec::Scan;
 
 // The number in two bytes.
 fn joined(low: u8, high: u8) -> u16

@@ -1,18 +1,7 @@
--- The reduction layer's definitions.
-pub mod Numbering
-pub mod Columns
-pub mod Compatible
-pub mod Cover
-pub mod Keys
-pub mod Merge
-pub mod Diagram
-pub mod Walk
-pub mod Compare
-pub mod Descent
-pub mod Packed
+-- What the functions of `reduction` cite.
+pub mod ColumnHashes
 pub mod Distinct
-pub mod Hash
-pub mod Bytes
+pub mod FirstBytes
 pub mod Lowering
-pub mod Reduction
-pub mod Opened
+pub mod Packed
+pub mod RunningKeys

@@ -9,11 +9,12 @@ use lib.ListN.{length, getD, replicate}
 use lib.Seq.{sets}
 use Rattle.laws.specs.Lists.{tab, rect, puts}
 use Rattle.laws.specs.Bits.{flag}
-use Rattle.reduction.specs.Numbering.{indexIn, firstsOf}
-use Rattle.reduction.specs.Cover.{cover}
+use Rattle.reduction_spec.specs.Numbering.{indexIn, firstsOf}
+use Rattle.reduction_spec.specs.Cover.{cover}
 use Rattle.reduction.specs.Packed.{candidatesOf, addedColumns, valueIn}
 use Rattle.reduction.specs.Distinct.{sameWords, linkedWords, sameOwner}
-use Rattle.reduction.specs.Diagram.{Node, node}
+use Rattle.reduction_spec.specs.declared.Node.{Node}
+use Rattle.reduction_spec.specs.Diagram.{node}
 
 -- the cliques of the w columns ps of the planes
 module _ (size : ℕ) (zs os : List ℕ) (w : ℕ) (ps : List ℕ) where

@@ -8,9 +8,8 @@ use lib.Dec.{eqb, ltb}
 use lib.ListN.{getD, replicate}
 use lib.Bits.{bitAnd, bitOr}
 use Rattle.laws.specs.Lists.{puts, putsAt}
-use Rattle.laws.specs.Bits.{has}
-use Rattle.sheet.specs.Planes.{marks}
-use Rattle.sheet.specs.Values.{free}
+use Rattle.laws.specs.Bits.{has, marks}
+use Rattle.sheet_spec.specs.Values.{free}
 
 -- the words of a column of 2^a places
 abbrev pub size : ℕ → ℕ

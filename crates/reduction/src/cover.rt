@@ -6,8 +6,8 @@ ghost use lib.Dec.{eqb};
 ghost use lib.ListN.{getD};
 ghost use Rattle.laws.specs.Bits.{flag};
 ghost use Rattle.laws.specs.Lists.{puts};
-ghost use Rattle.reduction.specs.Cover.{isIn, cover};
-ghost use Rattle.reduction.specs.Keys.{Growth, Stand, degree, firstKey, growing, joining, keeping, leastKey, lesser, lowered, turn, turns};
+ghost use Rattle.reduction_spec.specs.Cover.{isIn, cover};
+ghost use Rattle.reduction.specs.RunningKeys.{Growth, Stand, degree, firstKey, growing, joining, keeping, leastKey, lesser, lowered, turn, turns};
 
 fn lesser(a: u32, b: u32) -> u32
     ensures { λ r. ⌜ r ≡ lesser a b ⌝ }

@@ -8,9 +8,9 @@ ghost use lib.Seq.{sets};
 ghost use Rattle.laws.specs.Tests.{any, least};
 ghost use Rattle.laws.specs.Lists.{puts};
 ghost use Rattle.laws.specs.Bits.{flag};
-ghost use Rattle.reduction.specs.Numbering.{indexIn, firstsOf};
+ghost use Rattle.reduction_spec.specs.Numbering.{indexIn, firstsOf};
 ghost use Rattle.reduction.specs.Distinct.{sameWords};
-ghost use Rattle.reduction.specs.Hash.{stirred, folded, keyOf, isKept, Inside};
+ghost use Rattle.reduction.specs.ColumnHashes.{stirred, folded, keyOf, isKept, Inside};
 use crate::casts::wide16;
 
 // The words z and y stirred into k.

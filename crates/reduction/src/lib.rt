@@ -7,35 +7,16 @@ mod links;
 mod merging;
 mod node_words;
 mod packed;
-mod whole;
+mod pass;
 
 ghost use mathlib.Core.Path.{_≡_};
-ghost use Rattle.sheet.specs.Job.{job};
-ghost use Rattle.reduction.specs.Reduction.{reduction, widthsAfter, wordsAfter};
+ghost use Rattle.sheet_spec.specs.Job.{job};
+ghost use Rattle.reduction_spec.specs.Reduction.{reduction, widthsAfter, wordsAfter};
 use crate::casts::wide16;
 use crate::node_words::copy_widths;
 use crate::node_words::copy_words;
-use crate::whole::make;
-
-// A node of the diagram: its height, its child for 0 and its child for 1. Child 0 is constant 0, child 1 constant 1; node 2 stands first.
-pub struct Node {
-    pub height: u16,
-    pub low: u16,
-    pub high: u16,
-}
-
-// The answer to a job and its sheet: a refusal, 1 to 7, or 0 and the number of nodes.
-#[repr(C)]
-pub struct Reduction {
-    pub refusal: u8,
-    pub nodes: u16,
-}
-
-// The end of a walk from one cut to the next: the node reached and the outputs met, topmost most significant.
-pub struct Reached {
-    pub node: u16,
-    pub outputs: u32,
-}
+use crate::pass::reduce_all;
+use reduction_spec::Reduction;
 
 // The reduction of a job and its sheet: the least of refusals 1 to 7, or the number of nodes. Where nothing is refused widths[h] is the
 // width at height h, for 0 to t - 1, and words holds three words a node; else both are as they were.
@@ -55,7 +36,7 @@ pub fn reduce(
 {
     let mut made_widths = [0u16; 20];
     let mut made_words = [0u16; 30720];
-    let r = make(n, m, k, l, order, sheet, &mut made_widths, &mut made_words);
+    let r = reduce_all(n, m, k, l, order, sheet, &mut made_widths, &mut made_words);
     if r.refusal != 0 {
         return r;
     }

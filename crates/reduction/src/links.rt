@@ -8,10 +8,10 @@ ghost use lib.Seq.{sets};
 ghost use Rattle.laws.specs.Tests.{any};
 ghost use Rattle.laws.specs.Lists.{rect, puts, putsAt};
 ghost use Rattle.laws.specs.Bits.{flag};
-ghost use Rattle.sheet.specs.Planes.{marks};
+ghost use Rattle.laws.specs.Bits.{marks};
 ghost use Rattle.reduction.specs.Distinct.{agreeWords, linkedWords};
-ghost use Rattle.reduction.specs.Hash.{Inside};
-ghost use Rattle.reduction.specs.Bytes.{byteOf, byteAt, Short, Spread, Flags, other, agreeTo, narrowed, confirmed};
+ghost use Rattle.reduction.specs.ColumnHashes.{Inside};
+ghost use Rattle.reduction.specs.FirstBytes.{byteOf, byteAt, Short, Spread, Flags, other, agreeTo, narrowed, confirmed};
 use crate::casts::wide16;
 
 // Byte x of a word.

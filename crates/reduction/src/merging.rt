@@ -6,7 +6,7 @@ ghost use lib.Dec.{eqb};
 ghost use lib.Bits.{bitOr};
 ghost use lib.ListN.{length, getD};
 ghost use Rattle.laws.specs.Lists.{puts, putsAt};
-ghost use Rattle.reduction.specs.Numbering.{indexIn, firstsOf};
+ghost use Rattle.reduction_spec.specs.Numbering.{indexIn, firstsOf};
 ghost use Rattle.reduction.specs.Distinct.{sameOwner};
 ghost use Rattle.reduction.specs.Packed.{addedColumns};
 use crate::casts::narrow16;

@@ -8,7 +8,7 @@ ghost use lib.ListN.{getD};
 ghost use lib.Seq.{sets};
 ghost use Rattle.laws.specs.Lists.{tab, puts};
 ghost use Rattle.reduction.specs.Packed.{valueIn};
-ghost use Rattle.reduction.specs.Diagram.{node, nodeWords};
+ghost use Rattle.reduction_spec.specs.Diagram.{node, nodeWords};
 use crate::casts::narrow16;
 use crate::casts::wide16;
 

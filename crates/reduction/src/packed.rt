@@ -6,7 +6,7 @@ ghost use lib.Dec.{eqb};
 ghost use lib.Bits.{bitAnd, bitOr};
 ghost use lib.ListN.{getD};
 ghost use Rattle.laws.specs.Lists.{puts};
-ghost use Rattle.sheet.specs.Planes.{marks};
+ghost use Rattle.laws.specs.Bits.{marks};
 ghost use Rattle.reduction.specs.Packed.{placesWith, packedWord, half, linesMask, candidatesOf};
 use crate::casts::bit_of;
 use crate::casts::power;

@@ -8,12 +8,12 @@ use Prim.Native.Nat.{ℕ}
 use lib.ListN.{length}
 use Rattle.laws.specs.Tests.{within}
 use Rattle.laws.proofs.Cases.{by-test}
-use Rattle.bank.specs.State.{State, fresh, formed, bankFormed, limitRefused}
-use Rattle.bank.specs.Calls.{Answer, refused, After, numbered, admitRefusal, admit, latch, step}
-use Rattle.bank.specs.Book.{newBook}
-use Rattle.bank.specs.Lists.{Call, admission, latching, stepping, call, Entry, outputsHeld, outputsInBook}
-use Rattle.bank.proofs.Related.{Related, same-outputs}
-use Rattle.bank.proofs.AsBook.{call-same, fresh-related}
+use Rattle.bank_spec.specs.State.{State, fresh, formed, bankFormed, limitRefused}
+use Rattle.bank_spec.specs.Calls.{Answer, refused, After, numbered, admitRefusal, admit, latch, step}
+use Rattle.bank_spec.specs.Book.{newBook}
+use Rattle.bank_spec.specs.CallLists.{Call, admission, latching, stepping, call, Entry, outputsHeld, outputsInBook}
+use Rattle.bank_spec.proofs.Related.{Related, same-outputs}
+use Rattle.bank_spec.proofs.AsBook.{call-same, fresh-related}
 use Rattle.replay.specs.Coded.{Coded, making, calling}
 use Rattle.replay.specs.Entries.{Kept, noBank, inBook, bookEntries, onBank, bankAfter}
 

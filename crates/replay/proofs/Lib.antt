@@ -1,9 +1,9 @@
--- The laws of a replayed list of calls.
-pub mod Reading
-pub mod Written
-pub mod OneCall
-pub mod BookTraces
-pub mod Traces
-pub mod Turns
-pub mod Refusals
+-- Laws that more than one source file needs, or that other crates may cite: those are `pub`. Laws of one source file stand in its folder.
+mod BookTraces
 pub mod ListClaim
+mod LoopSteps
+mod OneCall
+mod Reading
+mod Refusals
+mod Traces
+pub mod Written

@@ -9,10 +9,10 @@ use lib.ListN.{length, length-map}
 use borrow.Author.Tests.{le-ltb}
 use Rattle.laws.specs.Tests.{within}
 use Rattle.laws.specs.Lists.{written}
-use Rattle.bank.specs.State.{fresh, limitRefused}
-use Rattle.bank.specs.Calls.{accepted}
-use Rattle.bank.specs.Book.{Book, newBook}
-use Rattle.bank.specs.Lists.{Call, bookCall, Entry, outputsInBook, bookTrace}
+use Rattle.bank_spec.specs.State.{fresh, limitRefused}
+use Rattle.bank_spec.specs.Calls.{accepted}
+use Rattle.bank_spec.specs.Book.{Book, newBook}
+use Rattle.bank_spec.specs.CallLists.{Call, bookCall, Entry, outputsInBook, bookTrace}
 use Rattle.replay.specs.Coded.{Coded, making, calling, codesOf, allFit}
 use Rattle.replay.specs.Entries.{noBank, inBook, bookEntries, bankAfter, traceBytes}
 use Rattle.replay.specs.Replay.{replay}

@@ -9,15 +9,15 @@ use lib.Dec.{leb}
 use lib.ListN.{length, getD, take, drop}
 use Rattle.laws.specs.Lists.{tab}
 use Rattle.laws.proofs.Cases.{by-test, cond-yes, cond-no}
-use Rattle.bank.specs.declared.Bank.{Bank}
-use Rattle.bank.specs.declared.Scan.{Scan}
-use Rattle.bank.specs.declared.StepAnswer.{StepAnswer}
-use Rattle.bank.specs.declared.StepAnswer.the-variants.{Went, Idle, Refused}
-use Rattle.bank.specs.State.{State, limitRefused}
-use Rattle.bank.specs.Calls.{After, numbered, answerOf, admit, latch, step}
+use Rattle.bank_spec.specs.declared.Bank.{Bank}
+use Rattle.bank_spec.specs.declared.Scan.{Scan}
+use Rattle.bank_spec.specs.declared.StepAnswer.{StepAnswer}
+use Rattle.bank_spec.specs.declared.StepAnswer.the-variants.{Went, Idle, Refused}
+use Rattle.bank_spec.specs.State.{State, limitRefused, stateOf}
+use Rattle.bank_spec.specs.Calls.{After, numbered, answerOf, admit, latch, step}
 use Rattle.bank.specs.declared.Started.{Started}
-use Rattle.bank.specs.Given.{stateOf, givenNumber, givenAnswer, started}
-use Rattle.bank.specs.Lists.{call, admission, latching, stepping}
+use Rattle.bank.specs.Given.{givenNumber, givenAnswer, started}
+use Rattle.bank_spec.specs.CallLists.{call, admission, latching, stepping}
 use Rattle.replay.specs.Coded.{making, calling, pair, saidSize, size, first}
 use Rattle.replay.specs.Entries.{onBank, kindOf, firstOf, secondOf}
 use Rattle.replay.specs.Replay.{Shown, shown, shownOf}

@@ -8,7 +8,7 @@ use native.Mathlib.Omega.{arith}
 use lib.ListN.{length}
 use borrow.Author.Tests.{lt-ltb, le-ltb}
 use Rattle.laws.specs.Lists.{written}
-use Rattle.bank.specs.State.{fresh}
+use Rattle.bank_spec.specs.State.{fresh}
 use Rattle.replay.specs.Coded.{callsIn, readable}
 use Rattle.replay.specs.Entries.{noBank, bookEntries, bankAfter, traceBytes}
 use Rattle.replay.specs.Replay.{replay}

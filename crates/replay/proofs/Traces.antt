@@ -16,12 +16,11 @@ use Rattle.laws.proofs.Cases.{by-less, cond-yes, cond-no}
 use Rattle.laws.proofs.Lists.{length-tab, getD-tab, tab-ext}
 use Rattle.laws.proofs.Filled.{length-written, written-none, written-next, written-sets}
 use Rattle.laws.proofs.Puts.{putsAt-sets}
-use Rattle.bank.specs.declared.Bank.{Bank}
-use Rattle.bank.specs.declared.Scan.{Scan}
-use Rattle.bank.specs.State.{State, fresh}
-use Rattle.bank.specs.Calls.{outputsOf}
-use Rattle.bank.specs.Given.{stateOf}
-use Rattle.bank.specs.Lists.{Entry, outputsHeld}
+use Rattle.bank_spec.specs.declared.Bank.{Bank}
+use Rattle.bank_spec.specs.declared.Scan.{Scan}
+use Rattle.bank_spec.specs.State.{State, fresh, stateOf}
+use Rattle.bank_spec.specs.Calls.{outputsOf}
+use Rattle.bank_spec.specs.CallLists.{Entry, outputsHeld}
 use Rattle.replay.specs.Coded.{Coded}
 use Rattle.replay.specs.Entries.{noBank, bookEntries, onBank, bankAfter, entryBytes, traceBytes}
 use Rattle.replay.specs.Replay.{Shown, shown, shownOf}

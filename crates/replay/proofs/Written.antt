@@ -15,7 +15,7 @@ use Rattle.laws.specs.Tests.{every}
 use Rattle.laws.proofs.Cases.{cond-yes, and-split, and-join}
 use Rattle.laws.proofs.Lists.{tab-ext, tab-of}
 use Rattle.laws.proofs.Tests.{every-at}
-use Rattle.bank.specs.Lists.{admission, latching, stepping}
+use Rattle.bank_spec.specs.CallLists.{admission, latching, stepping}
 use Rattle.replay.specs.Coded.{Coded, making, calling, pair, saidSize, size, first, callsTo, leftAfter, callsIn, readable, pairOf, allBytes, codeOf, fits, codesOf, allFit}
 use Rattle.replay.proofs.Reading.{calls-more, readable-more}
 

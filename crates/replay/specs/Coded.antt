@@ -12,7 +12,7 @@ use lib.Dec.{eqb, leb, ltb}
 use lib.ListN.{length, getD, take, drop}
 use Rattle.laws.specs.Lists.{tab, joined}
 use Rattle.laws.specs.Tests.{every}
-use Rattle.bank.specs.Lists.{Call, admission, latching, stepping}
+use Rattle.bank_spec.specs.CallLists.{Call, admission, latching, stepping}
 
 -- a bank made with S, or a call on the bank that was made last
 pub data Coded : Type 0 where

@@ -5,10 +5,10 @@ use mathlib.Core.Bool.{cond}
 use mathlib.Core.List.{List, [], _∷_, _++_}
 use lib.ListN.{length, getD}
 use Rattle.laws.specs.Lists.{tab}
-use Rattle.bank.specs.State.{State, fresh, limitRefused}
-use Rattle.bank.specs.Calls.{Answer, accepted, refused, idle, went, After}
-use Rattle.bank.specs.Book.{Book, newBook}
-use Rattle.bank.specs.Lists.{call, bookCall, Entry, outputsInBook}
+use Rattle.bank_spec.specs.State.{State, fresh, limitRefused}
+use Rattle.bank_spec.specs.Calls.{Answer, accepted, refused, idle, went, After}
+use Rattle.bank_spec.specs.Book.{Book, newBook}
+use Rattle.bank_spec.specs.CallLists.{call, bookCall, Entry, outputsInBook}
 use Rattle.replay.specs.Coded.{Coded, making, calling}
 
 -- a bank's S and its book; S is 0 while no bank is made

@@ -1,5 +1,5 @@
--- The definitions of a replayed list of calls.
+-- What the functions of `replay` cite.
 pub mod Coded
 pub mod Entries
-pub mod Replay
 pub mod Opened
+pub mod Replay

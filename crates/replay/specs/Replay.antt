@@ -6,11 +6,10 @@ use mathlib.Core.List.{List}
 use lib.Dec.{ltb}
 use lib.ListN.{length}
 use Rattle.laws.specs.Lists.{written}
-use Rattle.bank.specs.declared.Bank.{Bank}
-use Rattle.bank.specs.declared.Scan.{Scan}
-use Rattle.bank.specs.State.{State, fresh}
-use Rattle.bank.specs.Calls.{After}
-use Rattle.bank.specs.Given.{stateOf}
+use Rattle.bank_spec.specs.declared.Bank.{Bank}
+use Rattle.bank_spec.specs.declared.Scan.{Scan}
+use Rattle.bank_spec.specs.State.{State, fresh, stateOf}
+use Rattle.bank_spec.specs.Calls.{After}
 use Rattle.replay.specs.Coded.{callsIn, readable}
 use Rattle.replay.specs.Entries.{noBank, bookEntries, bankAfter, kindOf, firstOf, secondOf, traceBytes}
 

@@ -2,8 +2,9 @@
 ghost use mathlib.Core.Path.{_≡_};
 ghost use mathlib.Core.List.{List};
 ghost use Prim.Native.Nat.{ℕ, _<_, _≤_, _+_, _*_};
-ghost use Rattle.bank.specs.Calls.{admit, latch, step};
-ghost use Rattle.bank.specs.Given.{stateOf, givenNumber};
+ghost use Rattle.bank_spec.specs.Calls.{admit, latch, step};
+ghost use Rattle.bank_spec.specs.State.{stateOf};
+ghost use Rattle.bank.specs.Given.{givenNumber};
 ghost use Rattle.laws.specs.Lists.{tab};
 ghost use lib.ListN.{length, take, drop};
 ghost use Rattle.replay.specs.Coded.{making, pair, size, first};
@@ -12,9 +13,9 @@ ghost use Rattle.replay.specs.Replay.{shown, shownOf};
 use crate::coded::byte_at;
 use crate::coded::pair_at;
 use crate::coded::words_in;
-use bank::Bank;
-use bank::Scan;
-use bank::StepAnswer;
+use bank_spec::Bank;
+use bank_spec::Scan;
+use bank_spec::StepAnswer;
 
 // A call's answer (0 accepted, 1 and the number of a refusal, 2 Idle, 3 with block and cell) and bank and scan state after.
 pub struct Called {

@@ -6,7 +6,7 @@ ghost use Prim.Native.Nat.{_≤_, _<_, _+_, _*_};
 ghost use lib.Dec.{ltb};
 ghost use lib.ListN.{length, getD};
 ghost use Rattle.laws.specs.Lists.{tab, written, putsAt};
-ghost use Rattle.bank.specs.State.{fresh};
+ghost use Rattle.bank_spec.specs.State.{fresh};
 ghost use Rattle.replay.specs.Coded.{callsIn, readable};
 ghost use Rattle.replay.specs.Entries.{noBank, bookEntries, bankAfter, traceBytes};
 use crate::calling::Called;

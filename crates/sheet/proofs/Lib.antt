@@ -1,14 +1,2 @@
--- The sheet layer's laws.
-pub mod Chi
-pub mod Good
-pub mod Clashes
-pub mod Orders
-pub mod Words
-pub mod OrderRule
-pub mod Lists
-pub mod Loops
-pub mod Blocks
-pub mod Made
-pub mod Least
-pub mod Below
-pub mod Examples
+-- Laws that more than one source file needs, or that other crates may cite: those are `pub`. Laws of one source file stand in its folder.
+mod RefusalTests

@@ -1,11 +1,3 @@
--- The sheet layer's definitions.
-pub mod Records
-pub mod Job
-pub mod Values
-pub mod Refusals
-pub mod Table
-pub mod Characteristic
+-- What the functions of `sheet` cite.
 pub mod Pairs
 pub mod Planes
-pub mod Example
-pub mod Opened

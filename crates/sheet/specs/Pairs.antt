@@ -8,9 +8,9 @@ use lib.ListN.{getD}
 use lib.Bits.{bitAnd, bitXor}
 use Rattle.laws.specs.Tests.{any, sum}
 use Rattle.laws.specs.Bits.{flag}
-use Rattle.sheet.specs.Records.{recordCount, byte, mask, values, names}
-use Rattle.sheet.specs.Job.{outputByte}
-use Rattle.sheet.specs.Refusals.{placeOf}
+use Rattle.sheet_spec.specs.Records.{recordCount, byte, mask, values, names}
+use Rattle.sheet_spec.specs.Job.{outputByte}
+use Rattle.sheet_spec.specs.Refusals.{placeOf}
 
 -- bytes lo and hi of record r as one number, lo lowest
 abbrev pub pairOf : List ℕ → ℕ → ℕ → ℕ → ℕ

@@ -2,19 +2,18 @@
 -- made of two planes is the sheet's is proved.
 -- Assumes nothing.
 use mathlib.Core.Path.{_≡_}
-use Prim.Native.Nat.{ℕ, zero, suc, _-_, _*_, _%_, _^_, _≤_, _<_}
-use mathlib.Core.Bool.{Bool, false, cond, _&&_}
+use Prim.Native.Nat.{ℕ, zero, suc, _-_, _*_, _%_, _^_, _<_}
+use mathlib.Core.Bool.{Bool, cond, _&&_}
 use mathlib.Core.List.{List}
 use lib.Seq.{sets}
 use Rattle.laws.specs.Lists.{puts, rect}
-use Rattle.sheet.specs.Records.{recordCount, byte}
-use Rattle.sheet.specs.Job.{inputsTo, outputsTo}
+use Rattle.sheet_spec.specs.Records.{recordCount, byte}
+use Rattle.sheet_spec.specs.Job.{inputsTo, outputsTo}
 use Rattle.sheet.specs.Pairs.{pairOf}
 use lib.Dec.{eqb, ltb}
 use lib.ListN.{length, getD, replicate}
 use lib.Bits.{bitAnd, bitOr}
-use Rattle.laws.specs.Bits.{bit}
-use Rattle.sheet.specs.Refusals.{notEachOnce, refuse3, anyMalformed}
+use Rattle.laws.specs.Bits.{bit, marks}
 
 -- the place x has the values v on the mask k
 unfoldable pub agrees : ℕ → ℕ → ℕ → Bool
@@ -39,11 +38,6 @@ highAdded ks vs fs x r = added (getD ks r 0) (getD vs r 0) (highForce (getD ks r
 
 unfoldable pub lowAdded : List ℕ → List ℕ → List ℕ → ℕ → ℕ → ℕ
 lowAdded ks vs fs i r = added (getD ks r 0 % 256) (getD vs r 0 % 256) (lowForce (getD ks r 0) (getD vs r 0) (getD fs r 0)) i
-
--- what the first r records add, over what was there
-unfoldable pub marks : ℕ → (ℕ → ℕ) → ℕ → ℕ
-marks old g zero = old
-marks old g (suc r) = bitOr (marks old g r) (g r)
 
 -- the number of the word w, of which the lowest k inputs of the list are read, over what was there. (A word has 16 bits.)
 unfoldable pub numberTo : ℕ → List ℕ → ℕ → ℕ → ℕ
@@ -95,11 +89,3 @@ madeTable n m order s =
 -- the list holds 0, 1, .., 255
 abbrev pub CountsUp : List ℕ → Type 0
 CountsUp l = (i : ℕ) → i < 256 → getD l i 0 ≡ i
-
--- what the code that writes the table relies on
-pub record Readable (n m : ℕ) (order s : List ℕ) : Type 0 where
-  pub inputs : n ≤ 12
-  pub outputs : m ≤ 8
-  pub order-whole : notEachOnce n m order ≡ false
-  pub length-good : refuse3 s ≡ false
-  pub records-good : anyMalformed n m s ≡ false

@@ -7,9 +7,9 @@ mod planes;
 mod records;
 
 ghost use mathlib.Core.Path.{_≡_};
-ghost use Rattle.sheet.specs.Job.{job};
-ghost use Rattle.sheet.specs.Refusals.{sheetRefusal};
-ghost use Rattle.sheet.specs.Table.{tableAfter};
+ghost use Rattle.sheet_spec.specs.Job.{job};
+ghost use Rattle.sheet_spec.specs.Refusals.{sheetRefusal};
+ghost use Rattle.sheet_spec.specs.Table.{tableAfter};
 
 // The least of refusals 1 to 6 that the job and its sheet are given; 0 where there is none.
 pub fn refusal(n: usize, m: usize, k: usize, l: usize, order: &[u8], sheet: &[u8]) -> u8

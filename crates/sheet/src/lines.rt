@@ -4,9 +4,10 @@ ghost use Prim.Native.Nat.{_≤_, _<_, _+_, _-_, _*_, _/_, _%_, _^_};
 ghost use lib.ListN.{length, getD, replicate};
 ghost use lib.Seq.{sets};
 ghost use Rattle.laws.specs.Lists.{putsAt, rect};
-ghost use Rattle.sheet.specs.Job.{inputsTo, outputsTo};
-ghost use Rattle.sheet.specs.Table.{tableOf};
-ghost use Rattle.sheet.specs.Planes.{lineValue, lineAt, Readable, numberedField, planeOf};
+ghost use Rattle.sheet_spec.specs.Job.{inputsTo, outputsTo};
+ghost use Rattle.sheet_spec.specs.Table.{tableOf};
+ghost use Rattle.sheet.specs.Planes.{lineValue, lineAt, numberedField, planeOf};
+ghost use Rattle.sheet_spec.specs.Accepted.{Accepted};
 use crate::numbers::power;
 use crate::numbers::wide;
 use crate::planes::mark_high;
@@ -152,7 +153,7 @@ fn plane_of(
 
 // The whole table.
 pub fn write(n: usize, m: usize, order: &[u8], sheet: &[u8], table: &mut [u8; 32768])
-    requires { ⌜ Readable n m (now order) (now sheet) ⌝ }
+    requires { ⌜ Accepted n m (now order) (now sheet) ⌝ }
     ensures { λ _. ⌜ now (table .exit) ≡ sets (now (table .entry)) 0 (tableOf n m (now (order .entry)) (now (sheet .entry))) ⌝ }
 {
     let mut masks = [0u16; 256];

@@ -1,7 +1,7 @@
 // The job's numbers and its order: refusals 1 and 2, and where a variable stands.
 ghost use mathlib.Core.Path.{_≡_};
 ghost use Prim.Native.Nat.{_≤_, _<_, _+_};
-ghost use Rattle.sheet.specs.Refusals.{outOfRange, times, eachOnce, notEachOnce, placeOf};
+ghost use Rattle.sheet_spec.specs.Refusals.{outOfRange, times, eachOnce, notEachOnce, placeOf};
 use crate::numbers::wide;
 
 pub fn out_of_range(n: usize, m: usize, k: usize, l: usize) -> bool

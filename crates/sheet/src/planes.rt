@@ -6,7 +6,8 @@ ghost use lib.Bits.{bitOr};
 ghost use lib.ListN.{getD};
 ghost use Rattle.laws.specs.Lists.{puts, putsAt};
 ghost use Rattle.laws.specs.Bits.{bit};
-ghost use Rattle.sheet.specs.Planes.{added, highForce, lowForce, highAdded, lowAdded, marks, numberTo, CountsUp};
+ghost use Rattle.sheet.specs.Planes.{added, highForce, lowForce, highAdded, lowAdded, numberTo, CountsUp};
+ghost use Rattle.laws.specs.Bits.{marks};
 use crate::numbers::wide;
 use crate::numbers::wide16;
 

@@ -2,8 +2,8 @@
 ghost use mathlib.Core.Path.{_≡_};
 ghost use Prim.Native.Nat.{_≤_, _<_, _+_, _*_, _/_};
 ghost use Rattle.laws.specs.Lists.{puts};
-ghost use Rattle.sheet.specs.Records.{recordCount, byte};
-ghost use Rattle.sheet.specs.Refusals.{refuse3, malformed, anyMalformed};
+ghost use Rattle.sheet_spec.specs.Records.{recordCount, byte};
+ghost use Rattle.sheet_spec.specs.Refusals.{refuse3, malformed, anyMalformed};
 ghost use Rattle.sheet.specs.Pairs.{pairOf};
 use crate::numbers::power;
 use crate::numbers::wide;

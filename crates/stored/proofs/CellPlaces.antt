@@ -12,12 +12,12 @@ use borrow.Author.Tests.{eq-eqb, ne-eqb, lt-ltb, le-ltb}
 use Rattle.laws.specs.Tests.{sum}
 use Rattle.laws.proofs.Cases.{cond-yes, cond-no, by-less, by-equal}
 use Rattle.laws.proofs.Counts.{sum-ext}
-use Rattle.sheet.specs.Job.{isInput}
-use Rattle.stored.specs.Cells.{Cell, rows}
-use Rattle.stored.specs.Stored.{StoredCell, recordCount, variable, cutByte, railByte, withVariable, reading, storedCells, cellCount, noCell, cellAt, sizeOf, rowsBefore, recordsFormed}
+use Rattle.sheet_spec.specs.Job.{isInput}
+use Rattle.stored_spec.specs.declared.Cell.{Cell}
+use Rattle.stored_spec.specs.Cells.{rows}
+use Rattle.stored_spec.specs.StoredForm.{StoredCell, recordCount, variable, cutByte, railByte, withVariable, reading, storedCells, cellCount, noCell, cellAt, sizeOf, rowsBefore, recordsFormed}
 use Rattle.stored.specs.Places.{CellPlace, variablesOf, heightAbove, noPlace, cellPlace}
-use Rattle.stored.proofs.StoredCells.{begunIns, begunOuts, moreIns, moreOuts, cellsTo, endedCell, rowSum}
-use Rattle.stored.proofs.StoredCells.{ended-size, next-ins, next-outs, next-ended, longer, earlier, latest}
+use Rattle.stored_spec.proofs.StoredCells.{begunIns, begunOuts, moreIns, moreOuts, cellsTo, endedCell, rowSum, ended-size, next-ins, next-outs, next-ended, longer, earlier, latest}
 
 abbrev pub between : ℕ → ℕ → ℕ → ℕ → CellPlace
 between a b r s = record { top = a; bottom = b; at = r; end = s }

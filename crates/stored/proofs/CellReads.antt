@@ -14,15 +14,14 @@ use Rattle.laws.specs.Tests.{every}
 use Rattle.laws.proofs.Cases.{by-less, by-equal, cond-yes, cond-no, cond-both, and-split, and-join, and-left-no}
 use Rattle.laws.proofs.Tests.{every-at}
 use Rattle.laws.proofs.Counts.{sum-le, sum-fixed}
-use Rattle.sheet.specs.Job.{isInput}
-use Rattle.stored.specs.Cells.{fits, rows}
-use Rattle.stored.specs.Stored.{StoredCell, Reading, recordCount, variable, cutByte, railByte, appended, withVariable, withCut, reading}
-use Rattle.stored.specs.Stored.{storedCells, cellCount, noCell, cellAt, sizeOf, rowsBefore, rowCount, cellFormed, recordsFormed}
-use Rattle.stored.specs.Run.{address, rowPlace, outputsAfter}
+use Rattle.sheet_spec.specs.Job.{isInput}
+use Rattle.stored_spec.specs.Cells.{fits, rows}
+use Rattle.stored_spec.specs.StoredForm.{StoredCell, Reading, recordCount, variable, cutByte, railByte, appended, withVariable, withCut, reading, storedCells, cellCount, noCell, cellAt, sizeOf, rowsBefore, rowCount, cellFormed, recordsFormed}
+use Rattle.stored_spec.specs.Run.{address, rowPlace, outputsAfter}
 use Rattle.stored.specs.Reads.{hasCell, cellsFit, rowsCounted, cellRails, rowRead, outputsRead}
-use Rattle.stored.proofs.CellSizes.{few-inputs, few-outputs, few-rows}
-use Rattle.stored.proofs.StoredCells.{cellsTo, endedCell}
-use Rattle.stored.proofs.StoredParts.{RecordsHave, records-have}
+use Rattle.stored_spec.proofs.CellSizes.{few-inputs, few-outputs, few-rows}
+use Rattle.stored_spec.proofs.StoredCells.{cellsTo, endedCell}
+use Rattle.stored_spec.proofs.StoredParts.{RecordsHave, records-have}
 use Rattle.stored.proofs.CellPlaces.{turn-cells}
 
 -- the cell begun by a reading

@@ -1,11 +1,4 @@
--- The laws of stored cascades.
-pub mod CellSizes
-pub mod StoredCells
-pub mod CellsRead
-pub mod StoredParts
+-- Laws that more than one source file needs, or that other crates may cite: those are `pub`. Laws of one source file stand in its folder.
 pub mod CellPlaces
 pub mod CellReads
-pub mod RowBits
-pub mod RecordBytes
-pub mod ReadWriteCases
-pub mod RoundTrips
+mod RecordSteps

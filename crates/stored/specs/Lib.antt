@@ -1,7 +1,4 @@
--- The definitions of stored cascades.
-pub mod Cells
-pub mod Stored
+-- What the functions of `stored` cite.
 pub mod Places
-pub mod Run
-pub mod ReadWrite
 pub mod Reads
+pub mod RecordArrays

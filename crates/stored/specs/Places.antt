@@ -6,7 +6,7 @@ use mathlib.Core.List.{List}
 use lib.Dec.{ltb}
 use lib.ListN.{length}
 use Rattle.laws.specs.Tests.{sum}
-use Rattle.stored.specs.Stored.{StoredCell, recordCount, cellAt, cellCount, rowsBefore, recordsFormed}
+use Rattle.stored_spec.specs.StoredForm.{StoredCell, recordCount, cellAt, cellCount, rowsBefore, recordsFormed}
 pub use Rattle.stored.specs.declared.CellPlace.{CellPlace}
 
 -- of records R: how many variables a cell has, and the height of the cut above cell k

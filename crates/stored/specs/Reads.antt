@@ -7,8 +7,8 @@ use mathlib.Core.List.{List}
 use lib.Dec.{leb, ltb}
 use lib.ListN.{length}
 use Rattle.laws.specs.Tests.{every}
-use Rattle.stored.specs.Stored.{recordsFormed, cellCount, cellFormed, cellAt, rowCount}
-use Rattle.stored.specs.Run.{rowPlace, outputsAfter}
+use Rattle.stored_spec.specs.StoredForm.{recordsFormed, cellCount, cellFormed, cellAt, rowCount}
+use Rattle.stored_spec.specs.Run.{rowPlace, outputsAfter}
 pub use Rattle.stored.specs.declared.CellRails.{CellRails}
 
 -- the records are well formed and have a cell k

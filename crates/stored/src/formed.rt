@@ -5,9 +5,9 @@ ghost use Prim.Native.Nat.{_≤_, _<_, _+_, _-_, _*_, _/_, _^_};
 ghost use lib.Dec.{eqb, leb, ltb};
 ghost use lib.ListN.{length, getD};
 ghost use Rattle.laws.specs.Tests.{every, within};
-ghost use Rattle.sheet.specs.Job.{isInput};
-ghost use Rattle.stored.specs.Stored.{recordCount, variable, cutByte, railByte, recordFormed, cellCount, cellFormed};
-ghost use Rattle.stored.specs.Stored.{recordsFormed, rowsFormed, rowCount, wellFormed};
+ghost use Rattle.sheet_spec.specs.Job.{isInput};
+ghost use Rattle.stored_spec.specs.StoredForm.{recordCount, variable, cutByte, railByte, recordFormed, cellCount, cellFormed};
+ghost use Rattle.stored_spec.specs.StoredForm.{recordsFormed, rowsFormed, rowCount, wellFormed};
 use crate::casts::power;
 use crate::casts::wide;
 

@@ -6,51 +6,11 @@ mod read_write;
 mod reads;
 
 ghost use mathlib.Core.Path.{_≡_};
-ghost use Rattle.stored.specs.Cells.{fits, usableRows, usableBits};
-ghost use Rattle.stored.specs.Stored.{wellFormed, recordsFormed, cellCount};
+ghost use Rattle.stored_spec.specs.StoredForm.{wellFormed, recordsFormed, cellCount};
 ghost use Rattle.stored.specs.Places.{cellPlace};
 ghost use Rattle.stored.specs.Reads.{rowsCounted, cellRails, rowRead, outputsRead};
-ghost use Rattle.stored.specs.ReadWrite.{cascadeFrom, readAs, read, writtenAs, write};
-
-// A cell of a cascade by the number of its inputs and of its outputs, rails counted.
-pub struct Cell {
-    pub inputs: usize,
-    pub outputs: usize,
-}
-
-impl Cell {
-    // The largest cell.
-    pub const MAX_INPUTS: usize = 12;
-
-    pub const MAX_OUTPUTS: usize = 8;
-
-    // It has at most so many inputs and outputs.
-    pub fn fits(self, inputs: usize, outputs: usize) -> bool
-        ensures { λ r. ⌜ r ≡ fits inputs outputs self ⌝ }
-    {
-        (self.inputs <= inputs) & (self.outputs <= outputs)
-    }
-
-    // 2^inputs; 0 for a cell larger than the largest.
-    pub fn rows(self) -> usize
-        ensures { λ r. ⌜ r ≡ usableRows self ⌝ }
-    {
-        if self.fits(Cell::MAX_INPUTS, Cell::MAX_OUTPUTS) {
-            return 1 << self.inputs;
-        }
-        0
-    }
-
-    // 2^inputs x outputs; 0 for a cell larger than the largest.
-    pub fn bits(self) -> usize
-        ensures { λ r. ⌜ r ≡ usableBits self ⌝ }
-    {
-        if self.fits(Cell::MAX_INPUTS, Cell::MAX_OUTPUTS) {
-            return (1 << self.inputs) * self.outputs;
-        }
-        0
-    }
-}
+ghost use Rattle.stored.specs.RecordArrays.{cascadeFrom, readAs};
+ghost use Rattle.stored_spec.specs.ReadWrite.{read, writtenAs, write};
 
 // The records of a cascade, top first: of each its variable, whether a cut lies directly below, and the rails there.
 pub struct StoredRecords {

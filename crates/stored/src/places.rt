@@ -4,7 +4,7 @@ ghost use mathlib.Core.Bool.{true, cond};
 ghost use Prim.Native.Nat.{_≤_, _<_};
 ghost use lib.ListN.{length};
 ghost use Rattle.laws.specs.Tests.{every};
-ghost use Rattle.stored.specs.Stored.{recordsFormed, cellCount, cellFormed, rowsBefore};
+ghost use Rattle.stored_spec.specs.StoredForm.{recordsFormed, cellCount, cellFormed, rowsBefore};
 ghost use Rattle.stored.specs.Places.{noPlace, cellPlace};
 use crate::CellPlace;
 use crate::casts::wide;

@@ -13,24 +13,24 @@ use lib.Pow.{high}
 use borrow.Author.Tests.{le-leb, ne-eqb}
 use Rattle.laws.proofs.Cases.{by-test}
 use Rattle.laws.proofs.Powers.{place-below}
-use Rattle.sheet.specs.Job.{Job, t, isInput, varAt, ins, outs}
-use Rattle.sheet.specs.Table.{table}
-use Rattle.sheet.specs.Planes.{Readable}
-use Rattle.sheet.specs.Refusals.{notEachOnce, sheetRefusal}
-use Rattle.sheet.proofs.Least.{readable}
-use Rattle.sheet.proofs.Below.{insBelow}
-use Rattle.reduction.specs.Columns.{entry, same, layers}
-use Rattle.reduction.specs.Compatible.{opposite, compatible}
-use Rattle.reduction.specs.Diagram.{topValue, nodes, nodeOf}
-use Rattle.reduction.specs.Merge.{reduced, refuse7}
-use Rattle.reduction.specs.Walk.{lowOf, highOf}
-use Rattle.reduction.specs.Compare.{neitherZero, sameNodes, compatibleNodes, sameColumns, compatibleColumns}
-use Rattle.reduction.proofs.Ruled.{Ruled}
-use Rattle.reduction.proofs.Refined.{reduced-ruled, nodes-fit}
-use Rattle.reduction.proofs.Children.{wordsOf, nodeFor, ins-input, ins-output, outs-input, outs-output, ins-below, node-from, node-positive, input-low, input-high, output-low, output-high, top-value}
+use Rattle.sheet_spec.specs.Job.{Job, t, isInput, varAt, ins, outs}
+use Rattle.sheet_spec.specs.Table.{table}
+use Rattle.sheet_spec.specs.Accepted.{Accepted}
+use Rattle.sheet_spec.specs.Refusals.{notEachOnce, sheetRefusal}
+use Rattle.sheet_spec.proofs.LeastRefusal.{job-accepted}
+use Rattle.sheet_spec.proofs.LinesSettled.{insBelow}
+use Rattle.reduction_spec.specs.Columns.{entry, same, layers}
+use Rattle.reduction_spec.specs.Compatible.{opposite, compatible}
+use Rattle.reduction_spec.specs.Diagram.{topValue, nodes, nodeOf}
+use Rattle.reduction_spec.specs.Merge.{reduced, refuse7}
+use Rattle.reduction_spec.specs.Walk.{lowOf, highOf}
+use Rattle.reduction_spec.specs.Compare.{neitherZero, sameNodes, compatibleNodes, sameColumns, compatibleColumns}
+use Rattle.reduction_spec.proofs.MergeKeepsOrderRule.{Ruled}
+use Rattle.reduction_spec.proofs.AcceptedSheet.{reduced-ruled, nodes-fit}
+use Rattle.reduction_spec.proofs.NodeChildren.{wordsOf, nodeFor, ins-input, ins-output, outs-input, outs-output, ins-below, node-from, node-positive, input-low, input-high, output-low, output-high, top-value}
 use Rattle.walks.proofs.WordWalks.{reduced-below}
 use Rattle.walks.proofs.Halves.{same-halves, compatible-halves, same-line, compatible-line}
-use Rattle.reduction.proofs.Steps.{joint, same-self, same-left, same-right, same-step, compatible-step}
+use Rattle.reduction_spec.proofs.WalkSteps.{joint, same-self, same-left, same-right, same-step, compatible-step}
 
 -- the children of a node at an output whose value in the column is x, where v is the node below
 abbrev lowAt : ℕ → ℕ → ℕ
@@ -296,8 +296,8 @@ module _ (j : Job) (s : List ℕ) (e : sheetRefusal j s ≡ 0) (narrow : refuse7
   abbrev final : List ℕ
   final = reduced j (table j s)
 
-  accepted : Readable (j .n) (j .m) (j .order) s
-  accepted = readable (j .n) (j .m) (j .K) (j .L) (j .order) s e
+  accepted : Accepted (j .n) (j .m) (j .order) s
+  accepted = job-accepted j s e
 
   pub final-same : sameColumns (wordsOf j (reduced j (table j s))) h (nodeFor j (reduced j (table j s)) h p) (nodeFor j (reduced j (table j s)) h q)
       ≡ same (j .n) (ins j h) (outs j h) (reduced j (table j s)) p q

@@ -12,10 +12,10 @@ use lib.Pow.{pow-pos}
 use lib.ListN.{getD}
 use Rattle.laws.proofs.Cases.{by-less, and-split, and-join, same-test}
 use Rattle.laws.proofs.Tests.{every-of, every-at}
-use Rattle.reduction.specs.Columns.{entry, sameLine, same}
-use Rattle.reduction.specs.Compatible.{opposite, compatibleLine, compatible}
-use Rattle.reduction.proofs.Numbers.{same-entry, entry-same}
-use Rattle.reduction.proofs.Agree.{compatible-entry, entry-compatible}
+use Rattle.reduction_spec.specs.Columns.{entry, sameLine, same}
+use Rattle.reduction_spec.specs.Compatible.{opposite, compatibleLine, compatible}
+use Rattle.reduction_spec.proofs.ColumnNumbers.{same-entry, entry-same}
+use Rattle.reduction_spec.proofs.CompatiblePlaces.{compatible-entry, entry-compatible}
 
 module _ (n a b : ℕ) (f : List ℕ) where
   -- the places at which the topmost input below is 0; is 1

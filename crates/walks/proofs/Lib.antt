@@ -1,4 +1,4 @@
--- Laws of walks over the diagram of a table.
-pub mod WordWalks
-pub mod Halves
+-- Laws that more than one source file needs, or that other crates may cite: those are `pub`. Laws of one source file stand in its folder.
 pub mod Compared
+mod Halves
+pub mod WordWalks

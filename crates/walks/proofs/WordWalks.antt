@@ -16,26 +16,26 @@ use Rattle.laws.proofs.Cases.{by-test, by-less, and-split, or-split, same-test,
 use Rattle.laws.proofs.Tests.{every-of, every-at, every-ext}
 use Rattle.laws.proofs.Picked.{count-place, picked-at}
 use Rattle.laws.proofs.Bits.{bit-lt, flag-is}
-use Rattle.sheet.specs.Job.{Job, t, ins, outs, varAt, isInput, outputByte, inputList, outputsTo, outputList, wordOf}
-use Rattle.sheet.specs.Values.{value, allows}
-use Rattle.sheet.specs.Table.{tableAt, table}
-use Rattle.sheet.specs.Characteristic.{chi}
-use Rattle.sheet.specs.Planes.{Readable}
-use Rattle.sheet.specs.Refusals.{notEachOnce, outOfRange, refuse1, placeOf, sheetRefusal}
-use Rattle.sheet.proofs.Good.{order-length, output-once, place-lt, at-place}
-use Rattle.sheet.proofs.Orders.{outputAt, lowered, outputs-start, outputs-more, picked-outputs, output-below}
-use Rattle.sheet.proofs.Made.{table-entry, table-below}
-use Rattle.sheet.proofs.Least.{readable}
-use Rattle.sheet.proofs.Chi.{chi-allows}
-use Rattle.sheet.proofs.Below.{insBelow}
-use Rattle.reduction.specs.Columns.{layers}
-use Rattle.reduction.specs.Merge.{reduced, refuse7}
-use Rattle.reduction.specs.Diagram.{topValue, nodes}
-use Rattle.reduction.specs.Walk.{lowOf, highOf, child, walk}
-use Rattle.reduction.proofs.Ruled.{Ruled}
-use Rattle.reduction.proofs.Final.{merged-below}
-use Rattle.reduction.proofs.Refined.{sheet-ruled, reduced-ruled, reduced-refines, nodes-fit}
-use Rattle.reduction.proofs.Children.{wordsOf, nodeFor, ins-input, ins-output, outs-output, node-bottom, node-from, node-positive, node-top, ins-below, outs-below, input-child, output-low, output-high, top-value}
+use Rattle.sheet_spec.specs.Job.{Job, t, ins, outs, varAt, isInput, outputByte, inputList, outputsTo, outputList, wordOf}
+use Rattle.sheet_spec.specs.Values.{value, allows}
+use Rattle.sheet_spec.specs.Table.{tableAt, table}
+use Rattle.sheet_spec.specs.Characteristic.{chi}
+use Rattle.sheet_spec.specs.Accepted.{Accepted}
+use Rattle.sheet_spec.specs.Refusals.{notEachOnce, outOfRange, refuse1, placeOf, sheetRefusal}
+use Rattle.sheet_spec.proofs.RecordFields.{order-length, output-once, place-lt, at-place}
+use Rattle.sheet_spec.proofs.Orders.{outputAt, lowered, outputs-start, outputs-more, picked-outputs, output-below}
+use Rattle.sheet_spec.proofs.Tables.{table-entry, table-below}
+use Rattle.sheet_spec.proofs.LeastRefusal.{job-accepted}
+use Rattle.sheet_spec.proofs.Chi.{chi-allows}
+use Rattle.sheet_spec.proofs.LinesSettled.{insBelow}
+use Rattle.reduction_spec.specs.Columns.{layers}
+use Rattle.reduction_spec.specs.Merge.{reduced, refuse7}
+use Rattle.reduction_spec.specs.Diagram.{topValue, nodes}
+use Rattle.reduction_spec.specs.Walk.{lowOf, highOf, child, walk}
+use Rattle.reduction_spec.proofs.MergeKeepsOrderRule.{Ruled}
+use Rattle.reduction_spec.proofs.AllMerges.{merged-below}
+use Rattle.reduction_spec.proofs.AcceptedSheet.{sheet-ruled, reduced-ruled, reduced-refines, nodes-fit}
+use Rattle.reduction_spec.proofs.NodeChildren.{wordsOf, nodeFor, ins-input, ins-output, outs-output, node-bottom, node-from, node-positive, node-top, ins-below, outs-below, input-child, output-low, output-high, top-value}
 
 -- bits holds, at the heights of the inputs, the inputs that are the number x read down the order
 abbrev pub Carries : Job → ℕ → ℕ → Type 0
@@ -249,8 +249,8 @@ allows-refined v u b h same e =
 
 -- a job and sheet that are accepted
 module _ (j : Job) (s : List ℕ) (e : sheetRefusal j s ≡ 0) where
-  accepted : Readable (j .n) (j .m) (j .order) s
-  accepted = readable (j .n) (j .m) (j .K) (j .L) (j .order) s e
+  accepted : Accepted (j .n) (j .m) (j .order) s
+  accepted = job-accepted j s e
 
   pub some-variable : 1 ≤ t j
   unfolding sheetRefusal refuse1 outOfRange

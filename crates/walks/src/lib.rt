@@ -3,15 +3,15 @@ mod casts;
 mod walks;
 
 ghost use mathlib.Core.Path.{_≡_};
-ghost use Rattle.reduction.specs.Walk.{walk};
-ghost use Rattle.reduction.specs.Compare.{sameColumns, compatibleColumns};
-ghost use Rattle.reduction.specs.Descent.{descent};
+ghost use Rattle.reduction_spec.specs.Walk.{walk};
+ghost use Rattle.reduction_spec.specs.Compare.{sameColumns, compatibleColumns};
+ghost use Rattle.reduction_spec.specs.Descent.{descent};
 use crate::walks::compatible_nodes;
 use crate::walks::descend;
 use crate::walks::less;
 use crate::walks::same_nodes;
 use crate::walks::walk_to;
-use reduction::Reached;
+use reduction_spec::Reached;
 
 // Where a walk from the node at the height ends; bit g of bits is the value of the variable at height g + 1.
 pub fn walk(words: &[u16; 30720], bits: u32, height: u8, node: u16) -> u16

@@ -3,14 +3,14 @@ ghost use mathlib.Core.Path.{_≡_};
 ghost use Prim.Native.Nat.{suc, _≤_, _<_, _+_, _-_, _^_};
 ghost use lib.ListN.{length, getD};
 ghost use Rattle.laws.specs.Bits.{has};
-ghost use Rattle.sheet.specs.Job.{isInput};
-ghost use Rattle.reduction.specs.Walk.{lowOf, highOf, child, walk};
-ghost use Rattle.reduction.specs.Compare.{neitherZero, sameNodes, compatibleNodes};
-ghost use Rattle.reduction.specs.Descent.{descend};
+ghost use Rattle.sheet_spec.specs.Job.{isInput};
+ghost use Rattle.reduction_spec.specs.Walk.{lowOf, highOf, child, walk};
+ghost use Rattle.reduction_spec.specs.Compare.{neitherZero, sameNodes, compatibleNodes};
+ghost use Rattle.reduction_spec.specs.Descent.{descend};
 use crate::casts::long16;
 use crate::casts::wide8;
 use crate::casts::wide16;
-use reduction::Reached;
+use reduction_spec::Reached;
 
 // a - b, or 0 where b is more.
 pub fn less(a: u8, b: u8) -> u8

@@ -206,22 +206,22 @@ use mathlib.Core.Bool.{Bool, true, false}
 use mathlib.Core.List.{List, [], _∷_}
 use Prim.Native.Nat.{ℕ}
 use lib.ListN.{replicate}
-use Rattle.sheet.specs.Opened.{sheetOpened}
-use Rattle.reduction.specs.Opened.{reductionOpened}
-use Rattle.reduction.specs.declared.Node.{Node}
-use Rattle.cutting.specs.Opened.{cuttingOpened}
-use Rattle.bank.specs.Opened.{bankOpened}
+use Rattle.sheet_spec.specs.Opened.{sheetOpened}
+use Rattle.reduction_spec.specs.Opened.{reductionOpened}
+use Rattle.reduction_spec.specs.declared.Node.{Node}
+use Rattle.cutting_spec.specs.Opened.{cuttingOpened}
+use Rattle.bank_spec.specs.Opened.{bankOpened}
 ";
 const COMPILER: &str =
-    "use Rattle.cutting.specs.Compile.{compile, Compiled, Totals, accepted, refused}
+    "use Rattle.cutting_spec.specs.Compile.{compile, Compiled, Totals, accepted, refused}
 
 abbrev node : ℕ → ℕ → ℕ → Node
 node h l r = record { height = h; low = l; high = r }
 ";
-const BANK: &str = "use Rattle.bank.specs.State.{fresh, formed}
-use Rattle.bank.specs.Calls.{accepted, refused, idle, went}
-use Rattle.bank.specs.Book.{newBook}
-use Rattle.bank.specs.Lists.{admission, latching, stepping, Entry, trace, bookTrace}
+const BANK: &str = "use Rattle.bank_spec.specs.State.{fresh, formed}
+use Rattle.bank_spec.specs.Calls.{accepted, refused, idle, went}
+use Rattle.bank_spec.specs.Book.{newBook}
+use Rattle.bank_spec.specs.CallLists.{admission, latching, stepping, Entry, trace, bookTrace}
 ";
 
 /// Writes the equations as proof files, and their names for the crate's list of modules.

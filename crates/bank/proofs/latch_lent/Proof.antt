@@ -39,16 +39,17 @@ use denote.Triple.Clauses.{ensured, lasts}
 use denote.Triple.Table.{entered, cited}
 use denote.Triple.Walked.{says, Stays, stay-ref, stay-none, walkOf, goes-none, goes-ref, Walks, ends-at, walked, walk-meets}
 use denote.Exit.{yes}
-use Rattle.bank.specs.declared.Scan.{Scan}
-use Rattle.bank.specs.declared.Bank.{Bank}
+use Rattle.bank_spec.specs.declared.Scan.{Scan}
+use Rattle.bank_spec.specs.declared.Bank.{Bank}
 use Rattle.bank.specs.declared.Latched.{Latched}
-use Rattle.bank.specs.Calls.{After, latch as latchOf}
-use Rattle.bank.specs.State.{State}
-use Rattle.bank.specs.Given.{stateOf, givenNumber}
-use Rattle.bank.proofs.Scan as S
-use Rattle.bank.proofs.Scan.Laws as S′
-use Rattle.bank.proofs.Bank as B
-use Rattle.bank.proofs.Bank.Laws as B′
+use Rattle.bank_spec.specs.Calls.{After, latch as latchOf}
+use Rattle.bank_spec.specs.State.{State}
+use Rattle.bank_spec.specs.State.{stateOf}
+use Rattle.bank.specs.Given.{givenNumber}
+use Rattle.bank_spec.proofs.Scan as S
+use Rattle.bank_spec.proofs.Scan.Laws as S′
+use Rattle.bank_spec.proofs.Bank as B
+use Rattle.bank_spec.proofs.Bank.Laws as B′
 use Rattle.bank.proofs.Latched as O
 use Rattle.bank.proofs.Latched.Laws as O′
 use Rattle.bank.proofs.latch as latch

@@ -40,21 +40,22 @@ use denote.Triple.Clauses.{ensured, lasts}
 use denote.Triple.Table.{entered, cited}
 use denote.Triple.Walked.{says, Stays, stay-ref, stay-none, stay-none-slice, walkOf, goes-none, goes-none-slice, goes-ref, Walks, ends-at, walked, walk-meets}
 use denote.Exit.{yes}
-use Rattle.bank.specs.declared.Scan.{Scan}
-use Rattle.bank.specs.declared.Bank.{Bank}
+use Rattle.bank_spec.specs.declared.Scan.{Scan}
+use Rattle.bank_spec.specs.declared.Bank.{Bank}
 use Rattle.bank.specs.declared.Stepped.{Stepped}
-use Rattle.bank.specs.declared.StepAnswer.{StepAnswer}
-use Rattle.bank.specs.Calls.{After, step as stepOf}
-use Rattle.bank.specs.State.{State}
-use Rattle.bank.specs.Given.{stateOf, givenAnswer}
-use Rattle.bank.proofs.Scan as S
-use Rattle.bank.proofs.Scan.Laws as S′
-use Rattle.bank.proofs.Bank as B
-use Rattle.bank.proofs.Bank.Laws as B′
+use Rattle.bank_spec.specs.declared.StepAnswer.{StepAnswer}
+use Rattle.bank_spec.specs.Calls.{After, step as stepOf}
+use Rattle.bank_spec.specs.State.{State}
+use Rattle.bank_spec.specs.State.{stateOf}
+use Rattle.bank.specs.Given.{givenAnswer}
+use Rattle.bank_spec.proofs.Scan as S
+use Rattle.bank_spec.proofs.Scan.Laws as S′
+use Rattle.bank_spec.proofs.Bank as B
+use Rattle.bank_spec.proofs.Bank.Laws as B′
 use Rattle.bank.proofs.Stepped as O
 use Rattle.bank.proofs.Stepped.Laws as O′
-use Rattle.bank.proofs.StepAnswer as N
-use Rattle.bank.proofs.StepAnswer.Laws as N′
+use Rattle.bank_spec.proofs.StepAnswer as N
+use Rattle.bank_spec.proofs.StepAnswer.Laws as N′
 use Rattle.bank.proofs.step as step
 use Rattle.bank.proofs.step.Symbol as step-def
 use Rattle.bank.proofs.step.Symbol.{name as #bank·step}

@@ -1,7 +1,7 @@
 -- `cutting::rails` meets its contract.
 -- Assumes nothing.
 use mathlib.Core.Path.{_∙_, ap}
-use Rattle.cutting.specs.Cuts.{rails}
+use Rattle.stored_spec.specs.Rails.{rails}
 use borrow.Author.Needs.{needs}
 use Rattle.cutting.proofs.rails.Statement.{statement}
 use Rattle.cutting.proofs.rails.Tie as tie

@@ -50,16 +50,16 @@ use denote.Triple.Clauses.{ensured, lasts}
 use denote.Triple.Table.{entered, cited}
 use denote.Triple.Walked.{says, Stays, stay-dropped, gave-slice, walkOf, Walks, ends-at, walked, goes-dropped, goes-gave-slice, walk-meets}
 use Rattle.laws.specs.Lists.{puts}
-use Rattle.sheet.specs.Job.{Job, job}
-use Rattle.reduction.specs.declared.Node.{Node}
-use Rattle.reduction.proofs.Node as T
-use Rattle.cutting.specs.Compile.{Compiled, compile}
+use Rattle.sheet_spec.specs.Job.{Job, job}
+use Rattle.reduction_spec.specs.declared.Node.{Node}
+use Rattle.reduction_spec.proofs.Node as T
+use Rattle.cutting_spec.specs.Compile.{Compiled, compile}
 use Rattle.cutting.specs.Outcome.{answered, outcomeOf, outcome}
 use Rattle.cutting.specs.declared.Compilation.{Compilation}
 use Rattle.cutting.proofs.Compilation as C
 use Rattle.cutting.proofs.Compilation.Laws as C′
 use Rattle.node_table.specs.Nodes.{nodeIn, wordsFor}
-use Rattle.node_table.proofs.Alike.{fill-room, table-outcome}
+use Rattle.node_table.proofs.WordsAndNodes.{fill-room, table-outcome}
 use Rattle.node_table.proofs.LocalWords.{AR, arTy, size-is, zeros, zeros-long, zval, big-lit, zeros-own, zeros-lent, words-lent, in-cells, out-room}
 use Rattle.node_table.proofs.words.compile_words as compile-words
 use Rattle.node_table.proofs.words.compile_words.Symbol as compile-words-def

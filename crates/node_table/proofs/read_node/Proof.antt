@@ -41,9 +41,9 @@ use denote.Triple.Spec.{Meets, tripleOf}
 use denote.Triple.Table.{entered}
 use denote.Triple.Walked.{says, Stays, stay-dropped, walkOf, Walks, ends-at, walked, goes-dropped, walk-meets}
 use Rattle.laws.proofs.Cases.{by-less}
-use Rattle.reduction.specs.declared.Node.{Node}
-use Rattle.reduction.proofs.Node as T
-use Rattle.reduction.proofs.Node.Laws as T′
+use Rattle.reduction_spec.specs.declared.Node.{Node}
+use Rattle.reduction_spec.proofs.Node as T
+use Rattle.reduction_spec.proofs.Node.Laws as T′
 use Rattle.node_table.specs.Nodes.{noNode}
 use Rattle.node_table.proofs.read_node.Key.{name as #read-node}
 use Rattle.node_table.proofs.read_node as f

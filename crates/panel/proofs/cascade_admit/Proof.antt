@@ -1,9 +1,9 @@
 -- `panel::cascade_admit` meets its contract.
 -- Assumes nothing.
 use mathlib.Core.Path.{_∙_, ap}
-use Rattle.bank.specs.State.{State}
-use Rattle.bank.specs.Calls.{admit, After}
-use Rattle.panel.proofs.Lent.{called-in, number-given, bank-accepted, bank-refused, scan-accepted, scan-refused}
+use Rattle.bank_spec.specs.State.{State}
+use Rattle.bank_spec.specs.Calls.{admit, After}
+use Rattle.panel.proofs.LentBytes.{called-in, number-given, bank-accepted, bank-refused, scan-accepted, scan-refused}
 use borrow.Author.Needs.{needs}
 use Rattle.panel.proofs.cascade_admit.Statement.{statement}
 use Rattle.panel.proofs.cascade_admit.Tie as tie

@@ -2,9 +2,9 @@
 -- Assumes nothing.
 use mathlib.Core.Path.{_∙_}
 use native.Mathlib.Omega.{arith}
-use Rattle.bank.specs.State.{emptyBank, atRest}
+use Rattle.bank_spec.specs.State.{emptyBank, atRest}
 use Rattle.panel.specs.StateBytes.{made}
-use Rattle.panel.proofs.Lent.{number-given, bank-accepted, bank-refused, scan-accepted, scan-refused, made-started, made-over}
+use Rattle.panel.proofs.LentBytes.{number-given, bank-accepted, bank-refused, scan-accepted, scan-refused, made-started, made-over}
 use borrow.Author.Needs.{needs}
 use Rattle.panel.proofs.cascade_bank_new.Statement.{statement}
 use Rattle.panel.proofs.cascade_bank_new.Tie as tie

@@ -2,9 +2,9 @@
 -- Assumes nothing.
 use mathlib.Core.Path.{_∙_}
 use mathlib.Core.List.{[]}
-use Rattle.bank.specs.State.{State}
-use Rattle.bank.specs.Calls.{latch}
-use Rattle.panel.proofs.Lent.{called-in, number-given, scan-accepted, scan-refused}
+use Rattle.bank_spec.specs.State.{State}
+use Rattle.bank_spec.specs.Calls.{latch}
+use Rattle.panel.proofs.LentBytes.{called-in, number-given, scan-accepted, scan-refused}
 use borrow.Author.Needs.{needs}
 use Rattle.panel.proofs.cascade_latch.Statement.{statement}
 use Rattle.panel.proofs.cascade_latch.Tie as tie

@@ -1,8 +1,8 @@
 -- `panel::cascade_step` meets its contract.
 -- Assumes nothing.
 use mathlib.Core.Path.{_∙_}
-use Rattle.bank.specs.Calls.{step}
-use Rattle.panel.proofs.Lent.{called-in, went-given, idle-given, refused-given, scan-went, scan-idle, scan-unread}
+use Rattle.bank_spec.specs.Calls.{step}
+use Rattle.panel.proofs.LentBytes.{called-in, went-given, idle-given, refused-given, scan-went, scan-idle, scan-unread}
 use borrow.Author.Needs.{needs}
 use Rattle.panel.proofs.cascade_step.Statement.{statement}
 use Rattle.panel.proofs.cascade_step.Tie as tie

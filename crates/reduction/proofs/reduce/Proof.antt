@@ -1,23 +1,23 @@
 -- `reduction::reduce` meets its contract.
 -- Assumes nothing.
 use mathlib.Core.Path.{_≡_, sym, _∙_}
-use Rattle.sheet.specs.Job.{job}
-use Rattle.reduction.specs.Reduction.{reductionRefusal}
-use Rattle.reduction.proofs.Copied.{refusal-is, kept-widths, kept-words, few-variables, node-count, words-few, copied-widths, copied-words}
+use Rattle.sheet_spec.specs.Job.{job}
+use Rattle.reduction_spec.specs.Reduction.{reductionRefusal}
+use Rattle.reduction_spec.proofs.LentAfter.{refusal-is, kept-widths, kept-words, few-variables, node-count, words-few, copied-widths, copied-words}
 use native.Mathlib.Omega.{arith}
 use borrow.Author.Needs.{needs}
 use Rattle.reduction.proofs.reduce.Statement.{statement}
 use Rattle.reduction.proofs.reduce.Tie as tie
 
-make-requires : tie.Need-make-requires
-make-requires c κs = search needs
+reduce-all-requires : tie.Need-reduce-all-requires
+reduce-all-requires c κs = search needs
 
 returns : tie.Need-returns
 returns c =
     let a = c .before .before .before .before .before .before .before .args in
     let j = job (a .n) (a .m) (a .k) (a .l) (a .order .now) in
     let s = a .sheet .now in
-    let r = c .before .before .make in
+    let r = c .before .before .reduce-all in
     let refused : reductionRefusal j s ≡ 0 → ⊥ = λ z. c .if1 .taken (refusal-is j s (r .result) (r .ensures .0) ∙ z) in
     (r .ensures .0, (kept-widths j s refused (a .widths .now), kept-words j s refused (a .words .now)))
 
@@ -26,7 +26,7 @@ add-copy-widths c =
     let a = c .before .before .before .before .before .before .before .args in
     let j = job (a .n) (a .m) (a .k) (a .l) (a .order .now) in
     let s = a .sheet .now in
-    let r = c .before .before .make in
+    let r = c .before .before .reduce-all in
     let e : reductionRefusal j s ≡ 0 = sym (refusal-is j s (r .result) (r .ensures .0)) ∙ c .if1 .left in
     omega (arith, few-variables j s e)
 
@@ -35,7 +35,7 @@ copy-widths-requires c κs =
     let a = c .before .before .before .before .before .before .before .before .before .args in
     let j = job (a .n) (a .m) (a .k) (a .l) (a .order .now) in
     let s = a .sheet .now in
-    let r = c .before .before .before .before .make in
+    let r = c .before .before .before .before .reduce-all in
     let e : reductionRefusal j s ≡ 0 = sym (refusal-is j s (r .result) (r .ensures .0)) ∙ c .before .before .if1 .left in
     few-variables j s e
 
@@ -50,7 +50,7 @@ copy-words-requires c κs =
     let a = c .before .before .before .before .before .before .before .before .before .before .before .before .before .args in
     let j = job (a .n) (a .m) (a .k) (a .l) (a .order .now) in
     let s = a .sheet .now in
-    let r = c .before .before .before .before .before .before .before .before .make in
+    let r = c .before .before .before .before .before .before .before .before .reduce-all in
     let e : reductionRefusal j s ≡ 0 = sym (refusal-is j s (r .result) (r .ensures .0)) ∙ c .before .before .before .before .before .before .if1 .left in
     omega (arith, words-few j s e (r .result) (r .ensures .0), c .before .before .wide16 .ensures .0)
 
@@ -59,7 +59,7 @@ returns-2 c =
     let a = c .before .before .before .before .before .before .before .before .before .before .before .before .before .before .args in
     let j = job (a .n) (a .m) (a .k) (a .l) (a .order .now) in
     let s = a .sheet .now in
-    let r = c .before .before .before .before .before .before .before .before .before .make in
+    let r = c .before .before .before .before .before .before .before .before .before .reduce-all in
     let e : reductionRefusal j s ≡ 0 = sym (refusal-is j s (r .result) (r .ensures .0)) ∙ c .before .before .before .before .before .before .before .if1 .left in (
       r .ensures .0,
       (
@@ -72,7 +72,7 @@ pub reduce-spec : {M : Type 1} → statement M
 reduce-spec =
     tie.close
     (tie.spec
-    make-requires
+    reduce-all-requires
     returns
     add-copy-widths
     copy-widths-requires

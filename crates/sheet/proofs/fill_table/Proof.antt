@@ -2,7 +2,7 @@
 -- Assumes nothing.
 use mathlib.Core.Path.{sym, _∙_}
 use borrow.Author.Needs.{needs}
-use Rattle.sheet.proofs.Least.{readable, after-write, after-refusal}
+use Rattle.sheet_spec.proofs.LeastRefusal.{sheet-accepted, after-write, after-refusal}
 use Rattle.sheet.proofs.fill_table.Statement.{statement}
 use Rattle.sheet.proofs.fill_table.Tie as tie
 
@@ -12,7 +12,7 @@ refusal-requires c κs = search needs
 write-requires : tie.Need-write-requires
 write-requires c κs =
     let a = c .before .before .before .before .before .args in
-    readable (a .n) (a .m) (a .k) (a .l) (a .order .now) (a .sheet .now) (sym (c .before .before .refusal .ensures) ∙ c .before .if1 .taken)
+    sheet-accepted (a .n) (a .m) (a .k) (a .l) (a .order .now) (a .sheet .now) (sym (c .before .before .refusal .ensures) ∙ c .before .if1 .taken)
 
 returns : tie.Need-returns
 returns c =

@@ -2,7 +2,8 @@
 -- Assumes nothing.
 use mathlib.Core.Path.{sym, _∙_}
 use borrow.Author.Needs.{needs}
-use Rattle.sheet.proofs.Least.{in-range, short, given0, given1, given2, given3, given4, given5, given6}
+use Rattle.sheet_spec.proofs.LeastRefusal.{in-range, short, given1, given2, given3, given4}
+use Rattle.sheet.proofs.RefusalTests.{given0, given5, given6}
 use Rattle.sheet.proofs.refusal.Statement.{statement}
 use Rattle.sheet.proofs.refusal.Tie as tie
 

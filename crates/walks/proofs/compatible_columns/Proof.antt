@@ -4,7 +4,7 @@ use mathlib.Core.Path.{sym, _∙_, ap}
 use mathlib.Core.Bool.{Bool, _&&_}
 use borrow.Author.Tests.{le-leb, lt-leb}
 use denote.Ref.{now}
-use Rattle.reduction.specs.Compare.{compatibleNodes, compatibleColumns}
+use Rattle.reduction_spec.specs.Compare.{compatibleNodes, compatibleColumns}
 use borrow.Author.Needs.{needs}
 use Rattle.walks.proofs.compatible_columns.Statement.{statement}
 use Rattle.walks.proofs.compatible_columns.Tie as tie

@@ -8,8 +8,8 @@ use lib.Dec.{leb}
 use lib.Pow.{pow-pos}
 use denote.Ref.{now}
 use Rattle.laws.proofs.Cases.{cond-no}
-use Rattle.reduction.specs.Descent.{reached, descent}
-use Rattle.reduction.proofs.DescentSteps.{descent-within}
+use Rattle.reduction_spec.specs.Descent.{reached, descent}
+use Rattle.reduction_spec.proofs.DescentSteps.{descent-within}
 use Rattle.walks.proofs.descent.Statement.{statement}
 use Rattle.walks.proofs.descent.Tie as tie
 

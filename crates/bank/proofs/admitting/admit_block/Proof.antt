@@ -3,7 +3,7 @@
 use mathlib.Core.Path.{sym, _∙_}
 use native.Mathlib.Omega.{arith}
 use borrow.Author.Tests.{not-true, not-false}
-use Rattle.bank.proofs.Admits.{bank-there, block-has, admit-12-state, admit-12-block, admit-13, admit-14, admit-11, rows-fit, admit-accepts}
+use Rattle.bank.proofs.admitting.AdmissionCases.{bank-there, block-has, admit-12-state, admit-12-block, admit-13, admit-14, admit-11, rows-fit, admit-accepts}
 use borrow.Author.Needs.{needs}
 use Rattle.bank.proofs.admitting.admit_block.Statement.{statement}
 use Rattle.bank.proofs.admitting.admit_block.Tie as tie

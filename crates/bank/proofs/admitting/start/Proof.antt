@@ -1,8 +1,9 @@
 -- `bank::admitting::start` meets its contract.
 -- Assumes nothing.
 use mathlib.Core.Path.{_∙_, ap₂}
-use Rattle.bank.specs.State.{Bank, Scan}
-use Rattle.bank.proofs.Admits.{started-low, started-high, started-good}
+use Rattle.bank_spec.specs.declared.Bank.{Bank}
+use Rattle.bank_spec.specs.declared.Scan.{Scan}
+use Rattle.bank.proofs.admitting.AdmissionCases.{started-low, started-high, started-good}
 use borrow.Author.Needs.{needs}
 use Rattle.bank.proofs.admitting.start.Statement.{statement}
 use Rattle.bank.proofs.admitting.start.Tie as tie

@@ -4,7 +4,7 @@ use mathlib.Core.Path.{_≡_}
 use Prim.Native.Nat.{_+_, _*_, _≤_}
 use native.Mathlib.Omega.{arith}
 use lib.ListN.{length}
-use Rattle.bank.proofs.Admits.{block-added}
+use Rattle.bank.proofs.admitting.AdmissionCases.{block-added}
 use borrow.Author.Needs.{needs}
 use Rattle.bank.proofs.admitting.with_block.Statement.{statement}
 use Rattle.bank.proofs.admitting.with_block.Tie as tie

@@ -6,8 +6,8 @@ use Prim.Native.Nat.{ℕ}
 use lib.Dec.{leb}
 use Rattle.laws.specs.Tests.{every}
 use Rattle.laws.proofs.Tests.{every-at}
-use Rattle.bank.specs.State.{blockFormed, cellsBefore, rowsBefore}
-use Rattle.bank.proofs.HeldBlocks.{limit-low, limit-high, blocks-many, blocks-bad, blocks-good}
+use Rattle.bank_spec.specs.State.{blockFormed, cellsBefore, rowsBefore}
+use Rattle.bank.proofs.formed.HeldBlocks.{limit-low, limit-high, blocks-many, blocks-bad, blocks-good}
 use native.Mathlib.Omega.{arith}
 use borrow.Author.Needs.{needs}
 use Rattle.bank.proofs.formed.bank_formed.Statement.{statement}

@@ -3,8 +3,8 @@
 use mathlib.Core.Path.{_≡_, _∙_, ap}
 use Prim.Native.Nat.{_+_, _*_, _≤_}
 use lib.ListN.{length}
-use Rattle.stored.specs.Stored.{cellCount}
-use Rattle.bank.proofs.HeldBlocks.{part-is, few-records, cells-at-most}
+use Rattle.stored_spec.specs.StoredForm.{cellCount}
+use Rattle.bank.proofs.formed.HeldBlocks.{part-is, few-records, cells-at-most}
 use native.Mathlib.Omega.{arith}
 use borrow.Author.Needs.{needs}
 use Rattle.bank.proofs.formed.block_cells.Statement.{statement}

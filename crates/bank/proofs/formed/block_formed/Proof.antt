@@ -3,8 +3,8 @@
 use mathlib.Core.Path.{_≡_, _∙_, ap}
 use Prim.Native.Nat.{_+_, _*_, _≤_}
 use lib.ListN.{length}
-use Rattle.stored.specs.Stored.{recordsFormed}
-use Rattle.bank.proofs.HeldBlocks.{part-is, too-few, too-many, in-number}
+use Rattle.stored_spec.specs.StoredForm.{recordsFormed}
+use Rattle.bank.proofs.formed.HeldBlocks.{part-is, too-few, too-many, in-number}
 use native.Mathlib.Omega.{arith}
 use borrow.Author.Needs.{needs}
 use Rattle.bank.proofs.formed.block_formed.Statement.{statement}

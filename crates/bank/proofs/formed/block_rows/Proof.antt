@@ -4,7 +4,7 @@ use mathlib.Core.Path.{_≡_, _∙_, ap}
 use Prim.Native.Nat.{_+_, _*_, _≤_}
 use lib.ListN.{length}
 use Rattle.stored.specs.Reads.{rowsCounted}
-use Rattle.bank.proofs.HeldBlocks.{part-is, few-records, rows-at-most, rows-are}
+use Rattle.bank.proofs.formed.HeldBlocks.{part-is, few-records, rows-at-most, rows-are}
 use native.Mathlib.Omega.{arith}
 use borrow.Author.Needs.{needs}
 use Rattle.bank.proofs.formed.block_rows.Statement.{statement}

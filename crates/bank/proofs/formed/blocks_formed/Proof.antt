@@ -3,8 +3,8 @@
 use mathlib.Core.Path.{_≡_}
 use Prim.Native.Nat.{_≤_, _-_}
 use Rattle.laws.specs.Tests.{every}
-use Rattle.sheet.proofs.Loops.{every-step}
-use Rattle.bank.specs.State.{blockFormed}
+use Rattle.laws.proofs.Tests.{every-step}
+use Rattle.bank_spec.specs.State.{blockFormed}
 use native.Mathlib.Omega.{arith}
 use borrow.Author.Needs.{needs}
 use Rattle.bank.proofs.formed.blocks_formed.Statement.{statement}

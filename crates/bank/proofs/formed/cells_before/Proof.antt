@@ -2,8 +2,8 @@
 -- Assumes nothing.
 use mathlib.Core.Path.{_≡_}
 use Prim.Native.Nat.{_≤_, _-_, _*_}
-use Rattle.bank.specs.State.{cellsBefore}
-use Rattle.bank.proofs.HeldBlocks.{no-cells, cells-next}
+use Rattle.bank_spec.specs.State.{cellsBefore}
+use Rattle.bank.proofs.formed.HeldBlocks.{no-cells, cells-next}
 use native.Mathlib.Omega.{arith}
 use borrow.Author.Needs.{needs}
 use Rattle.bank.proofs.formed.cells_before.Statement.{statement}

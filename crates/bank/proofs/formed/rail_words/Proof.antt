@@ -3,7 +3,7 @@
 use mathlib.Core.Path.{_≡_, _∙_, ap}
 use Prim.Native.Nat.{ℕ, _+_, _*_, _^_, _%_, _≤_}
 use lib.ListN.{length}
-use Rattle.bank.proofs.HeldBlocks.{few-records, rails-at-most, upper-is, words-at-most}
+use Rattle.bank.proofs.formed.HeldBlocks.{few-records, rails-at-most, upper-is, words-at-most}
 use native.Mathlib.Omega.{arith}
 use borrow.Author.Needs.{needs}
 use Rattle.bank.proofs.formed.rail_words.Statement.{statement}

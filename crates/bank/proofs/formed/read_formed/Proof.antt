@@ -2,8 +2,8 @@
 -- Assumes nothing.
 use mathlib.Core.Path.{refl}
 use borrow.Author.Tests.{lt-ltb, le-ltb}
-use Rattle.stored.specs.Stored.{cellCount}
-use Rattle.bank.specs.State.{recordsOf}
+use Rattle.stored_spec.specs.StoredForm.{cellCount}
+use Rattle.bank_spec.specs.State.{recordsOf}
 use native.Mathlib.Omega.{arith}
 use borrow.Author.Needs.{needs}
 use Rattle.bank.proofs.formed.read_formed.Statement.{statement}

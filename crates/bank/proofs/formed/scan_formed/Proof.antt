@@ -1,6 +1,6 @@
 -- `scan_formed` tests a scan state.
 -- Assumes nothing.
-use Rattle.bank.proofs.HeldBlocks.{bank-has, not-running, no-block, in-block}
+use Rattle.bank.proofs.formed.HeldBlocks.{bank-has, not-running, no-block, in-block}
 use native.Mathlib.Omega.{arith}
 use borrow.Author.Needs.{needs}
 use Rattle.bank.proofs.formed.scan_formed.Statement.{statement}

@@ -1,7 +1,7 @@
 -- `state_formed` tests a bank and a scan state.
 -- Assumes nothing.
 use mathlib.Core.Path.{sym, _∙_}
-use Rattle.bank.specs.State.{formed}
+use Rattle.bank_spec.specs.State.{formed}
 use borrow.Author.Needs.{needs}
 use Rattle.bank.proofs.formed.state_formed.Statement.{statement}
 use Rattle.bank.proofs.formed.state_formed.Tie as tie

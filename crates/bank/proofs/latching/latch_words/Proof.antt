@@ -1,8 +1,8 @@
 -- `bank::latching::latch_words` meets its contract.
 -- Assumes nothing.
 use mathlib.Core.Path.{sym, _∙_}
-use Rattle.bank.proofs.Admits.{bank-there}
-use Rattle.bank.proofs.Latches.{latch-accepts, latch-12}
+use Rattle.bank.proofs.admitting.AdmissionCases.{bank-there}
+use Rattle.bank.proofs.latching.LatchCases.{latch-accepts, latch-12}
 use borrow.Author.Needs.{needs}
 use Rattle.bank.proofs.latching.latch_words.Statement.{statement}
 use Rattle.bank.proofs.latching.latch_words.Tie as tie

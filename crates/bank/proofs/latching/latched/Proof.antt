@@ -1,6 +1,6 @@
 -- `bank::latching::latched` meets its contract.
 -- Assumes nothing.
-use Rattle.bank.proofs.Latches.{latched-as}
+use Rattle.bank.proofs.latching.LatchCases.{latched-as}
 use borrow.Author.Needs.{needs}
 use Rattle.bank.proofs.latching.latched.Statement.{statement}
 use Rattle.bank.proofs.latching.latched.Tie as tie

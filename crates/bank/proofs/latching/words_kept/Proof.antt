@@ -6,7 +6,7 @@ use native.Mathlib.Omega.{arith}
 use lib.ListN.{getD}
 use Rattle.laws.specs.Lists.{puts}
 use Rattle.laws.proofs.Puts.{puts-none, puts-next}
-use Rattle.bank.proofs.Latches.{words-stored}
+use Rattle.bank.proofs.latching.LatchCases.{words-stored}
 use borrow.Author.Needs.{needs}
 use Rattle.bank.proofs.latching.words_kept.Statement.{statement}
 use Rattle.bank.proofs.latching.words_kept.Tie as tie

@@ -5,8 +5,8 @@ use Prim.Native.Nat.{ℕ, _+_, _*_, _≤_}
 use lib.ListN.{length}
 use native.Mathlib.Omega.{arith}
 use lib.Dec.{ltb}
-use Rattle.stored.specs.Stored.{cellCount}
-use Rattle.bank.proofs.NextRead.{block-below, part-end, lent-records}
+use Rattle.stored_spec.specs.StoredForm.{cellCount}
+use Rattle.bank.proofs.stepping.NextRead.{block-below, part-end, lent-records}
 use borrow.Author.Needs.{needs}
 use Rattle.bank.proofs.stepping.more_cells.Statement.{statement}
 use Rattle.bank.proofs.stepping.more_cells.Tie as tie

@@ -2,8 +2,8 @@
 -- Assumes nothing.
 use mathlib.Core.Path.{sym, _∙_}
 use native.Mathlib.Omega.{arith}
-use Rattle.bank.proofs.NextRead.{block-below, cell-below}
-use Rattle.bank.proofs.StepCases.{next-cell, next-block, scan-over}
+use Rattle.bank.proofs.stepping.NextRead.{block-below, cell-below}
+use Rattle.bank.proofs.stepping.StepCases.{next-cell, next-block, scan-over}
 use borrow.Author.Needs.{needs}
 use Rattle.bank.proofs.stepping.moved_on.Statement.{statement}
 use Rattle.bank.proofs.stepping.moved_on.Tie as tie

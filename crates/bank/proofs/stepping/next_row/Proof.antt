@@ -5,8 +5,8 @@ use Prim.Native.Nat.{ℕ, _+_, _*_, _≤_}
 use native.Mathlib.Omega.{arith}
 use lib.ListN.{length, getD}
 use denote.Ref.{now}
-use Rattle.bank.specs.Calls.{nextRow}
-use Rattle.bank.proofs.NextRead.{held, block-held, block-below, part-end, place-is, place-held}
+use Rattle.bank_spec.specs.Calls.{nextRow}
+use Rattle.bank.proofs.stepping.NextRead.{held, block-held, block-below, part-end, place-is, place-held}
 use borrow.Author.Needs.{needs}
 use Rattle.bank.proofs.stepping.next_row.Statement.{statement}
 use Rattle.bank.proofs.stepping.next_row.Tie as tie

@@ -5,7 +5,7 @@ use Prim.Native.Nat.{_+_, _-_, _*_, _≤_}
 use borrow.Rule.Slice.PartMut.{midOf}
 use lib.ListN.{length}
 use native.Mathlib.Omega.{arith}
-use Rattle.bank.proofs.NextRead.{block-below, part-end, lent-records, outputs-are, outputs-back}
+use Rattle.bank.proofs.stepping.NextRead.{block-below, part-end, lent-records, outputs-are, outputs-back}
 use borrow.Author.Needs.{needs}
 use Rattle.bank.proofs.stepping.outputs_after.Statement.{statement}
 use Rattle.bank.proofs.stepping.outputs_after.Tie as tie

@@ -4,8 +4,8 @@ use mathlib.Core.Path.{_≡_, _∙_, ap}
 use Prim.Native.Nat.{ℕ, _+_, _*_, _%_, _^_, _≤_}
 use lib.ListN.{length}
 use native.Mathlib.Omega.{arith}
-use Rattle.stored.specs.Run.{railAfter}
-use Rattle.bank.proofs.NextRead.{block-below, few-lower, part-end, lent-records, lower-is}
+use Rattle.stored_spec.specs.Run.{railAfter}
+use Rattle.bank.proofs.stepping.NextRead.{block-below, few-lower, part-end, lent-records, lower-is}
 use borrow.Author.Needs.{needs}
 use Rattle.bank.proofs.stepping.rail_after.Statement.{statement}
 use Rattle.bank.proofs.stepping.rail_after.Tie as tie

@@ -4,9 +4,9 @@ use mathlib.Core.Path.{sym, _∙_, ap}
 use native.Mathlib.Omega.{arith}
 use borrow.Author.Tests.{not-true, not-false}
 use denote.Ref.{now}
-use Rattle.bank.specs.State.{rowsBefore}
-use Rattle.bank.proofs.NextRead.{held}
-use Rattle.bank.proofs.StepCases.{not-formed, no-scan, few-rows, one-read}
+use Rattle.bank_spec.specs.State.{rowsBefore}
+use Rattle.bank.proofs.stepping.NextRead.{held}
+use Rattle.bank.proofs.stepping.StepCases.{not-formed, no-scan, few-rows, one-read}
 use borrow.Author.Needs.{needs}
 use Rattle.bank.proofs.stepping.step_once.Statement.{statement}
 use Rattle.bank.proofs.stepping.step_once.Tie as tie

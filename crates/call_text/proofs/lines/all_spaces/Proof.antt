@@ -6,7 +6,7 @@ use native.Mathlib.Omega.{arith}
 use denote.Ref.{now}
 use lib.Dec.{eqb}
 use Rattle.laws.specs.Tests.{every}
-use Rattle.call_text.proofs.WordLaws.{every-step}
+use Rattle.laws.proofs.Tests.{every-step}
 use Rattle.call_text.proofs.CallLaws.{isSpace}
 use borrow.Author.Needs.{needs}
 use Rattle.call_text.proofs.lines.all_spaces.Statement.{statement}

@@ -6,7 +6,7 @@ use native.Mathlib.Omega.{arith}
 use denote.Ref.{now}
 use Rattle.laws.specs.Tests.{every}
 use Rattle.call_text.specs.Lines.{isWordByte}
-use Rattle.call_text.proofs.WordLaws.{every-step}
+use Rattle.laws.proofs.Tests.{every-step}
 use borrow.Author.Needs.{needs}
 use Rattle.call_text.proofs.lines.all_word_bytes.Statement.{statement}
 use Rattle.call_text.proofs.lines.all_word_bytes.Tie as tie

@@ -7,7 +7,7 @@ use denote.Ref.{now}
 use lib.ListN.{length}
 use Rattle.laws.specs.Tests.{every}
 use Rattle.call_text.specs.Words.{isDigit}
-use Rattle.call_text.proofs.WordLaws.{every-step}
+use Rattle.laws.proofs.Tests.{every-step}
 use borrow.Author.Needs.{needs}
 use Rattle.call_text.proofs.words.all_digits.Statement.{statement}
 use Rattle.call_text.proofs.words.all_digits.Tie as tie

@@ -8,7 +8,7 @@ use lib.Dec.{eqb}
 use lib.ListN.{length, getD}
 use Rattle.laws.specs.Tests.{every}
 use Rattle.call_text.specs.Words.{begins}
-use Rattle.call_text.proofs.WordLaws.{every-step}
+use Rattle.laws.proofs.Tests.{every-step}
 use borrow.Author.Needs.{needs}
 use Rattle.call_text.proofs.words.begins.Statement.{statement}
 use Rattle.call_text.proofs.words.begins.Tie as tie

@@ -4,10 +4,10 @@ use mathlib.Core.Path.{refl, _∙_, ap, ap₂}
 use Prim.Native.Nat.{ℕ, _+_, _-_, _<_}
 use native.Mathlib.Omega.{arith}
 use denote.Ref.{now}
-use Rattle.reduction.specs.Descent.{descend}
-use Rattle.reduction.proofs.DescentSteps.{met-still, met-few}
+use Rattle.reduction_spec.specs.Descent.{descend}
+use Rattle.reduction_spec.proofs.DescentSteps.{met-still, met-few}
 use Rattle.cutting.specs.RowWalks.{rowFrom}
-use Rattle.cutting.proofs.BlockRows.{going-on, ended-row, input-row, output-row, met-next}
+use Rattle.cutting.proofs.cell_rows.BlockRows.{going-on, ended-row, input-row, output-row, met-next}
 use borrow.Author.Needs.{needs}
 use borrow.Fn.Kinds.{In}
 use borrow.Fn.PlainCycle.{Measures, is, falls, and}

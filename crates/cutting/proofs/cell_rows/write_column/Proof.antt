@@ -7,7 +7,7 @@ use borrow.Rule.Slice.PartMut.{mid-len}
 use denote.Ref.{now}
 use lib.ListN.{length}
 use lib.Pow.{pow-pos}
-use Rattle.cutting.proofs.BlockRows.{node-small, node-block}
+use Rattle.cutting.proofs.cell_rows.BlockRows.{node-small, node-block}
 use borrow.Author.Needs.{needs}
 use Rattle.cutting.proofs.cell_rows.write_column.Statement.{statement}
 use Rattle.cutting.proofs.cell_rows.write_column.Tie as tie

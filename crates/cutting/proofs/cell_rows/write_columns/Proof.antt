@@ -8,8 +8,8 @@ use Rattle.laws.specs.Lists.{putsAt}
 use Rattle.laws.proofs.Lists.{row-end}
 use Rattle.laws.proofs.Puts.{putsAt-none, length-putsAt}
 use Rattle.cutting.specs.RowWalks.{walkedRow}
-use Rattle.cutting.proofs.RowSteps.{column-byte, column-more}
-use Rattle.cutting.proofs.BlockRows.{few-inputs}
+use Rattle.cutting.proofs.cell_rows.RowSteps.{column-byte, column-more}
+use Rattle.cutting.proofs.cell_rows.BlockRows.{few-inputs}
 use native.Mathlib.Omega.{arith}
 use borrow.Author.Needs.{needs}
 use Rattle.cutting.proofs.cell_rows.write_columns.Statement.{statement}

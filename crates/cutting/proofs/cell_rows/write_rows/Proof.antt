@@ -5,7 +5,7 @@ use Prim.Native.Nat.{ℕ, _≤_, _*_, _-_}
 use lib.ListN.{length}
 use Rattle.laws.proofs.Puts.{length-putsAt}
 use Rattle.cutting.specs.RowWalks.{walkedRow}
-use Rattle.cutting.proofs.RowSteps.{rows-all}
+use Rattle.cutting.proofs.cell_rows.RowSteps.{rows-all}
 use native.Mathlib.Omega.{arith}
 use borrow.Author.Needs.{needs}
 use Rattle.cutting.proofs.cell_rows.write_rows.Statement.{statement}

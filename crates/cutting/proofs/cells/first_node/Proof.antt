@@ -7,7 +7,7 @@ use lib.Dec.{eqb}
 use Rattle.laws.specs.Tests.{sum}
 use Rattle.laws.proofs.Cases.{cond-yes, cond-no}
 use Rattle.laws.proofs.Counts.{sum-next}
-use Rattle.cutting.specs.Parts.{widthUp, firstIn}
+use Rattle.cutting.specs.Plan.{widthUp, firstIn}
 use native.Mathlib.Omega.{arith}
 use borrow.Author.Needs.{needs}
 use Rattle.cutting.proofs.cells.first_node.Statement.{statement}

@@ -5,7 +5,7 @@ use borrow.Author.Tests.{lt-ltb, le-ltb}
 use lib.Dec.{ltb}
 use lib.ListN.{getD}
 use Rattle.laws.proofs.Cases.{cond-yes, cond-no}
-use Rattle.cutting.specs.Parts.{widthUp}
+use Rattle.cutting.specs.Plan.{widthUp}
 use native.Mathlib.Omega.{arith}
 use borrow.Author.Needs.{needs}
 use Rattle.cutting.proofs.cells.width_up.Statement.{statement}

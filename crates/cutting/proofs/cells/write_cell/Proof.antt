@@ -2,8 +2,8 @@
 -- Assumes nothing.
 use mathlib.Core.Path.{_∙_, ap, ap₂}
 use Prim.Native.Nat.{ℕ, _-_}
-use Rattle.stored.specs.Cells.{usableRows}
-use Rattle.cutting.proofs.RowsStored.{CellNumbers, columns-among, walked-byte, walked-stored}
+use Rattle.stored_spec.specs.Cells.{usableRows}
+use Rattle.cutting.proofs.cells.RowsStored.{CellNumbers, columns-among, walked-byte, walked-stored}
 use native.Mathlib.Omega.{arith}
 use borrow.Author.Needs.{needs}
 use Rattle.cutting.proofs.cells.write_cell.Statement.{statement}

@@ -3,8 +3,8 @@
 use mathlib.Core.Path.{_≡_, refl, _∙_, ap}
 use Prim.Native.Nat.{_≤_, _-_}
 use lib.ListN.{length}
-use Rattle.cutting.specs.Parts.{rowsTo, rowsStored}
-use Rattle.cutting.proofs.RowsStored.{rowsTo-next, rowsTo-end, rowsOf-is, rowsStored-next, length-rowsStored}
+use Rattle.cutting.specs.Plan.{rowsTo, rowsStored}
+use Rattle.cutting.proofs.cells.RowsStored.{rowsTo-next, rowsTo-end, rowsOf-is, rowsStored-next, length-rowsStored}
 use native.Mathlib.Omega.{arith}
 use borrow.Author.Needs.{needs}
 use Rattle.cutting.proofs.cells.write_cells.Statement.{statement}

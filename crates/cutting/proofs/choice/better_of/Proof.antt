@@ -1,6 +1,6 @@
 -- `cutting::choice::better_of` meets its contract.
 -- Assumes nothing.
-use Rattle.cutting.proofs.ChoiceSteps.{take-first, take-cells, take-bits, keep-bits, keep-cells}
+use Rattle.cutting.proofs.choice.ChoiceSteps.{take-first, take-cells, take-bits, keep-bits, keep-cells}
 use Rattle.cutting.proofs.choice.better_of.Statement.{statement}
 use Rattle.cutting.proofs.choice.better_of.Tie as tie
 

@@ -4,7 +4,7 @@ use Prim.Native.Nat.{_≤_, _-_}
 use mathlib.Core.Path.{_≡_, _∙_}
 use denote.Ref.{now}
 use native.Mathlib.Omega.{arith}
-use Rattle.cutting.proofs.ChoiceSteps.{best-below, below-start, below-step, below-end, way-at-bottom, ways-small}
+use Rattle.cutting.proofs.choice.ChoiceSteps.{best-below, below-start, below-step, below-end, way-at-bottom, ways-small}
 use mathlib.Core.Path.{_≡_}
 use borrow.Author.Needs.{needs}
 use Rattle.cutting.proofs.choice.way_from.Statement.{statement}

@@ -1,6 +1,6 @@
 -- `cutting::choice::with_cut` meets its contract.
 -- Assumes nothing.
-use Rattle.cutting.proofs.ChoiceSteps.{stay-inputs, stay-outputs, stay-none, go-through}
+use Rattle.cutting.proofs.choice.ChoiceSteps.{stay-inputs, stay-outputs, stay-none, go-through}
 use borrow.Author.Needs.{needs}
 use Rattle.cutting.proofs.choice.with_cut.Statement.{statement}
 use Rattle.cutting.proofs.choice.with_cut.Tie as tie

@@ -6,8 +6,8 @@ use denote.Ref.{now}
 use native.Mathlib.Omega.{arith}
 use Rattle.laws.specs.Lists.{puts}
 use Rattle.laws.proofs.Puts.{puts-none, puts-next}
-use Rattle.cutting.specs.Parts.{inputsIn}
-use Rattle.cutting.proofs.Plans.{inputs-none, inputs-step, inputs-most}
+use Rattle.cutting.specs.Plan.{inputsIn}
+use Rattle.cutting.proofs.plan.PlanSteps.{inputs-none, inputs-step, inputs-most}
 use borrow.Author.Needs.{needs}
 use Rattle.cutting.proofs.plan.fill_inputs.Statement.{statement}
 use Rattle.cutting.proofs.plan.fill_inputs.Tie as tie

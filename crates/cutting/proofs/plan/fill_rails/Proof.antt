@@ -6,9 +6,9 @@ use denote.Ref.{now}
 use native.Mathlib.Omega.{arith}
 use Rattle.laws.specs.Lists.{puts}
 use Rattle.laws.proofs.Puts.{puts-none, puts-next}
-use Rattle.cutting.specs.Cuts.{rails}
-use Rattle.cutting.specs.Parts.{railsIn}
-use Rattle.cutting.proofs.Plans.{rails-last, rails-below}
+use Rattle.stored_spec.specs.Rails.{rails}
+use Rattle.cutting.specs.Plan.{railsIn}
+use Rattle.cutting.proofs.plan.PlanSteps.{rails-last, rails-below}
 use borrow.Author.Needs.{needs}
 use Rattle.cutting.proofs.plan.fill_rails.Statement.{statement}
 use Rattle.cutting.proofs.plan.fill_rails.Tie as tie

@@ -6,8 +6,8 @@ use denote.Ref.{now}
 use native.Mathlib.Omega.{arith}
 use Rattle.laws.specs.Lists.{puts}
 use Rattle.laws.proofs.Puts.{puts-none, puts-next}
-use Rattle.cutting.specs.Parts.{cutIn}
-use Rattle.cutting.proofs.Plans.{cut-first, cut-next}
+use Rattle.cutting.specs.Plan.{cutIn}
+use Rattle.cutting.proofs.plan.PlanSteps.{cut-first, cut-next}
 use borrow.Author.Needs.{needs}
 use Rattle.cutting.proofs.plan.follow.Statement.{statement}
 use Rattle.cutting.proofs.plan.follow.Tie as tie

@@ -1,7 +1,7 @@
 -- `cutting::plan::plan_cells` meets its contract.
 -- Assumes nothing.
 use denote.Ref.{now}
-use Rattle.cutting.proofs.Plans.{cells-few, next-low, cuts-low, plan-is}
+use Rattle.cutting.proofs.plan.PlanSteps.{cells-few, next-low, cuts-low, plan-is}
 use borrow.Author.Needs.{needs}
 use Rattle.cutting.proofs.plan.plan_cells.Statement.{statement}
 use Rattle.cutting.proofs.plan.plan_cells.Tie as tie

@@ -3,9 +3,9 @@
 use Prim.Native.Nat.{_≤_, _-_, _^_}
 use mathlib.Core.Path.{_≡_, refl}
 use native.Mathlib.Omega.{arith}
-use Rattle.cutting.specs.Cuts.{rails}
-use Rattle.cutting.proofs.RailCounts.{rails-least}
-use Rattle.cutting.proofs.Plans.{rails-more, rails-few, twice-power}
+use Rattle.stored_spec.specs.Rails.{rails}
+use Rattle.cutting_spec.proofs.RailCounts.{rails-least}
+use Rattle.cutting.proofs.plan.PlanSteps.{rails-more, rails-few, twice-power}
 use borrow.Author.Needs.{needs}
 use Rattle.cutting.proofs.plan.rails_of.Statement.{statement}
 use Rattle.cutting.proofs.plan.rails_of.Tie as tie

@@ -4,8 +4,8 @@ use Prim.Native.Nat.{_≤_, _+_, _-_}
 use mathlib.Core.Path.{_≡_, _∙_, ap}
 use denote.Ref.{now}
 use native.Mathlib.Omega.{arith}
-use Rattle.cutting.specs.Parts.{rowsTo}
-use Rattle.cutting.proofs.Plans.{rows-small, rows-start, rows-step, rows-most}
+use Rattle.cutting.specs.Plan.{rowsTo}
+use Rattle.cutting.proofs.plan.PlanSteps.{rows-small, rows-start, rows-step, rows-most}
 use borrow.Author.Needs.{needs}
 use Rattle.cutting.proofs.plan.row_total.Statement.{statement}
 use Rattle.cutting.proofs.plan.row_total.Tie as tie

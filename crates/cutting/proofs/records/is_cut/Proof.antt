@@ -6,8 +6,8 @@ use denote.Ref.{now}
 use lib.Dec.{eqb}
 use lib.ListN.{getD}
 use Rattle.laws.specs.Tests.{any}
-use Rattle.sheet.proofs.Loops.{any-step}
-use Rattle.cutting.specs.Parts.{isCut}
+use Rattle.laws.proofs.Tests.{any-step}
+use Rattle.cutting.specs.Plan.{isCut}
 use native.Mathlib.Omega.{arith}
 use borrow.Author.Needs.{needs}
 use Rattle.cutting.proofs.records.is_cut.Statement.{statement}

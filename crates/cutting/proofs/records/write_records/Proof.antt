@@ -6,8 +6,8 @@ use denote.Ref.{now}
 use lib.ListN.{length}
 use lib.Seq.{sets, length-sets}
 use Rattle.laws.specs.Lists.{joined}
-use Rattle.cutting.specs.Parts.{recordIn}
-use Rattle.cutting.proofs.RecordsWritten.{record-next}
+use Rattle.cutting.specs.Plan.{recordIn}
+use Rattle.cutting.proofs.records.RecordsWritten.{record-next}
 use native.Mathlib.Omega.{arith}
 use borrow.Author.Needs.{needs}
 use Rattle.cutting.proofs.records.write_records.Statement.{statement}

@@ -46,13 +46,13 @@ use denote.Triple.Call.{calls-at}
 use denote.Triple.Clauses.{ensured, lasts}
 use denote.Triple.Table.{entered, cited}
 use denote.Triple.Walked.{says, needs, Stays, stay-slice, stay-none, stay-none-slice, walkOf, Walks, ends-at, walked, goes-slice, goes-none, goes-none-slice, walk-meets}
-use Rattle.reduction.specs.declared.Node.{Node}
+use Rattle.reduction_spec.specs.declared.Node.{Node}
 use Rattle.laws.specs.Lists.{puts}
 use Rattle.laws.proofs.Puts.{puts-none, puts-next, length-puts}
 use Rattle.node_table.specs.Nodes.{nodeIn}
-use Rattle.reduction.proofs.Node as T
-use Rattle.reduction.proofs.Node.Laws as T′
-use Rattle.node_table.proofs.Again.{LentAgain, lends-again, comes-back}
+use Rattle.reduction_spec.proofs.Node as T
+use Rattle.reduction_spec.proofs.Node.Laws as T′
+use Rattle.node_table.proofs.nodes.LentAgain.{LentAgain, lends-again, comes-back}
 use Rattle.node_table.proofs.nodes.node_of as node-of
 use Rattle.node_table.proofs.nodes.node_of.Symbol as node-of-def
 use Rattle.node_table.proofs.nodes.node_of.Symbol.{name as #node-of}

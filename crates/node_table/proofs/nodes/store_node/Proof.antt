@@ -38,10 +38,10 @@ use denote.Steps.{nothing, owned}
 use denote.Triple.Spec.{Meets, tripleOf}
 use denote.Triple.Table.{entered}
 use denote.Triple.Walked.{says, needs, Stays, stay-slice, stay-none, walkOf, Walks, ends-at, walked, goes-slice, goes-none, walk-meets}
-use Rattle.reduction.specs.declared.Node.{Node}
+use Rattle.reduction_spec.specs.declared.Node.{Node}
 use Rattle.node_table.specs.Nodes.{noNode}
-use Rattle.reduction.proofs.Node as T
-use Rattle.reduction.proofs.Node.Laws as T′
+use Rattle.reduction_spec.proofs.Node as T
+use Rattle.reduction_spec.proofs.Node.Laws as T′
 use Rattle.node_table.proofs.nodes.store_node.Key.{name as #store-node}
 use Rattle.node_table.proofs.nodes.store_node as f
 use Rattle.node_table.proofs.nodes.store_node.Statement as stated

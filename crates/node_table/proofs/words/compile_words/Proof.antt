@@ -5,10 +5,10 @@ use native.Mathlib.Omega.{arith}
 use borrow.Author.Needs.{needs}
 use lib.Seq.{length-take-le}
 use denote.Ref.{now}
-use Rattle.sheet.specs.Job.{job}
+use Rattle.sheet_spec.specs.Job.{job}
 use Rattle.cutting.specs.Outcome.{outcome}
 use Rattle.node_table.specs.Nodes.{wordsFor}
-use Rattle.node_table.proofs.Lent.{front-outcome}
+use Rattle.node_table.proofs.words.LentWords.{front-outcome}
 use Rattle.node_table.proofs.words.compile_words.Statement.{statement}
 use Rattle.node_table.proofs.words.compile_words.Tie as tie
 

@@ -1,6 +1,6 @@
 -- `panel::state_bytes::bank_in` meets its contract.
 -- Assumes nothing.
-use Rattle.panel.proofs.StateLaws.{bank-read}
+use Rattle.panel.proofs.state_bytes.StateLaws.{bank-read}
 use borrow.Author.Needs.{needs}
 use Rattle.panel.proofs.state_bytes.bank_in.Statement.{statement}
 use Rattle.panel.proofs.state_bytes.bank_in.Tie as tie

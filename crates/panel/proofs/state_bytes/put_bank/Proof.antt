@@ -5,7 +5,7 @@ use mathlib.Core.List.{List}
 use Prim.Native.Nat.{ℕ}
 use lib.ListN.{getD}
 use Rattle.laws.specs.Lists.{putsAt}
-use Rattle.panel.proofs.StateLaws.{bank-stored}
+use Rattle.panel.proofs.state_bytes.StateLaws.{bank-stored}
 use borrow.Author.Needs.{needs}
 use Rattle.panel.proofs.state_bytes.put_bank.Statement.{statement}
 use Rattle.panel.proofs.state_bytes.put_bank.Tie as tie

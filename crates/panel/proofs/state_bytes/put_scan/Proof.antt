@@ -6,7 +6,7 @@ use Prim.Native.Nat.{ℕ, _%_, _/_}
 use lib.ListN.{getD, set}
 use Rattle.laws.specs.Lists.{putsAt}
 use Rattle.panel.specs.StateBytes.{wordByte}
-use Rattle.panel.proofs.StateLaws.{scan-stored}
+use Rattle.panel.proofs.state_bytes.StateLaws.{scan-stored}
 use borrow.Author.Needs.{needs}
 use Rattle.panel.proofs.state_bytes.put_scan.Statement.{statement}
 use Rattle.panel.proofs.state_bytes.put_scan.Tie as tie

@@ -1,6 +1,6 @@
 -- `panel::state_bytes::scan_in` meets its contract.
 -- Assumes nothing.
-use Rattle.panel.proofs.StateLaws.{scan-read}
+use Rattle.panel.proofs.state_bytes.StateLaws.{scan-read}
 use borrow.Author.Needs.{needs}
 use Rattle.panel.proofs.state_bytes.scan_in.Statement.{statement}
 use Rattle.panel.proofs.state_bytes.scan_in.Tie as tie

@@ -7,7 +7,7 @@ use lib.ListN.{getD}
 use Rattle.laws.specs.Lists.{puts}
 use Rattle.laws.proofs.Puts.{puts-none, puts-next}
 use Rattle.panel.specs.StateBytes.{pairAt}
-use Rattle.panel.proofs.StateLaws.{stored-whole}
+use Rattle.panel.proofs.state_bytes.StateLaws.{stored-whole}
 use borrow.Author.Needs.{needs}
 use Rattle.panel.proofs.state_bytes.words_in.Statement.{statement}
 use Rattle.panel.proofs.state_bytes.words_in.Tie as tie

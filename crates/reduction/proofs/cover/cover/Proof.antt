@@ -6,9 +6,9 @@ use Prim.Native.Nat.{ℕ}
 use native.Mathlib.Omega.{arith}
 use lib.ListN.{getD, replicate}
 use Rattle.laws.proofs.Puts.{puts-ext}
-use Rattle.reduction.specs.Cover.{cover}
-use Rattle.reduction.specs.Keys.{Stand, turns}
-use Rattle.reduction.proofs.Turns.{turns-cover}
+use Rattle.reduction_spec.specs.Cover.{cover}
+use Rattle.reduction.specs.RunningKeys.{Stand, turns}
+use Rattle.reduction.proofs.cover.KeysGiveCover.{turns-cover}
 use borrow.Author.Needs.{needs}
 use Rattle.reduction.proofs.cover.cover.Statement.{statement}
 use Rattle.reduction.proofs.cover.cover.Tie as tie

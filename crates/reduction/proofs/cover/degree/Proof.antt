@@ -7,8 +7,8 @@ use native.Mathlib.Omega.{arith}
 use Rattle.laws.specs.Tests.{sum}
 use Rattle.laws.specs.Bits.{flag}
 use Rattle.laws.proofs.Counts.{sum-next, sum-at}
-use Rattle.reduction.specs.Cover.{isIn}
-use Rattle.reduction.specs.Keys.{degree}
+use Rattle.reduction_spec.specs.Cover.{isIn}
+use Rattle.reduction.specs.RunningKeys.{degree}
 use borrow.Author.Needs.{needs}
 use Rattle.reduction.proofs.cover.degree.Statement.{statement}
 use Rattle.reduction.proofs.cover.degree.Tie as tie

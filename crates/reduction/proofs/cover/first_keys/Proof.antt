@@ -5,7 +5,7 @@ use Prim.Native.Nat.{ℕ, _≤_, _-_, _+_, _*_}
 use native.Mathlib.Omega.{arith}
 use Rattle.laws.specs.Lists.{puts}
 use Rattle.laws.proofs.Puts.{puts-none, puts-next}
-use Rattle.reduction.specs.Keys.{firstKey}
+use Rattle.reduction.specs.RunningKeys.{firstKey}
 use borrow.Author.Needs.{needs}
 use Rattle.reduction.proofs.cover.first_keys.Statement.{statement}
 use Rattle.reduction.proofs.cover.first_keys.Tie as tie

@@ -4,8 +4,8 @@ use mathlib.Core.Path.{_≡_, sym, _∙_, ap}
 use Prim.Native.Nat.{ℕ, suc, _≤_, _-_, _+_}
 use native.Mathlib.Nat.{mul-le-mul-right, sub-zero}
 use native.Mathlib.Omega.{arith}
-use Rattle.reduction.specs.Keys.{Growth, leastKey, growing, joining}
-use Rattle.reduction.proofs.Keys.{growing-stop, growing-more}
+use Rattle.reduction.specs.RunningKeys.{Growth, leastKey, growing, joining}
+use Rattle.reduction.proofs.cover.KeySteps.{growing-stop, growing-more}
 use borrow.Author.Needs.{needs}
 use Rattle.reduction.proofs.cover.grow.Statement.{statement}
 use Rattle.reduction.proofs.cover.grow.Tie as tie

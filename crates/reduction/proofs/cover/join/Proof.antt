@@ -5,8 +5,8 @@ use mathlib.Core.Path.{refl, ap}
 use mathlib.Core.List.{List}
 use Prim.Native.Nat.{ℕ}
 use lib.ListN.{set}
-use Rattle.reduction.specs.Keys.{joining, leftKeys, keptKeys, gone}
-use Rattle.reduction.proofs.Keys.{same-growth}
+use Rattle.reduction.specs.RunningKeys.{joining, leftKeys, keptKeys, gone}
+use Rattle.reduction.proofs.cover.KeySteps.{same-growth}
 use borrow.Author.Needs.{needs}
 use Rattle.reduction.proofs.cover.join.Statement.{statement}
 use Rattle.reduction.proofs.cover.join.Tie as tie

@@ -7,7 +7,7 @@ use native.Mathlib.Omega.{arith}
 use lib.ListN.{getD}
 use Rattle.laws.specs.Lists.{puts}
 use Rattle.laws.proofs.Puts.{puts-none, puts-next, getD-unput}
-use Rattle.reduction.specs.Keys.{keeping}
+use Rattle.reduction.specs.RunningKeys.{keeping}
 use borrow.Author.Needs.{needs}
 use Rattle.reduction.proofs.cover.keep.Statement.{statement}
 use Rattle.reduction.proofs.cover.keep.Tie as tie

@@ -4,7 +4,7 @@ use mathlib.Core.Path.{sym}
 use borrow.Author.Tests.{eq-eqb, ne-eqb}
 use lib.Dec.{eqb}
 use Rattle.laws.proofs.Cases.{cond-yes, cond-no}
-use Rattle.reduction.specs.Keys.{gone, keeping}
+use Rattle.reduction.specs.RunningKeys.{gone, keeping}
 use Rattle.reduction.proofs.cover.keeping.Statement.{statement}
 use Rattle.reduction.proofs.cover.keeping.Tie as tie
 

@@ -5,7 +5,7 @@ use Prim.Native.Nat.{_≤_, _-_}
 use native.Mathlib.Numerals.{add-one}
 use native.Mathlib.Omega.{arith}
 use lib.ListN.{getD}
-use Rattle.reduction.specs.Keys.{leastKey, lesser}
+use Rattle.reduction.specs.RunningKeys.{leastKey, lesser}
 use borrow.Author.Needs.{needs}
 use Rattle.reduction.proofs.cover.least_key.Statement.{statement}
 use Rattle.reduction.proofs.cover.least_key.Tie as tie

@@ -5,7 +5,7 @@ use native.Mathlib.Omega.{arith}
 use borrow.Author.Tests.{lt-ltb, le-ltb}
 use lib.Dec.{ltb}
 use Rattle.laws.proofs.Cases.{cond-yes, cond-no}
-use Rattle.reduction.specs.Keys.{lesser}
+use Rattle.reduction.specs.RunningKeys.{lesser}
 use Rattle.reduction.proofs.cover.lesser.Statement.{statement}
 use Rattle.reduction.proofs.cover.lesser.Tie as tie
 

@@ -7,7 +7,7 @@ use native.Mathlib.Omega.{arith}
 use borrow.Author.Tests.{leb-true}
 use lib.Dec.{eqb, ltb, leb}
 use Rattle.laws.proofs.Cases.{cond-yes, cond-no, and-split}
-use Rattle.reduction.specs.Keys.{gone, lowered}
+use Rattle.reduction.specs.RunningKeys.{gone, lowered}
 use Rattle.reduction.proofs.cover.lowered.Statement.{statement}
 use Rattle.reduction.proofs.cover.lowered.Tie as tie
 

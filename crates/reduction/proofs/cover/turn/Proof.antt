@@ -6,8 +6,8 @@ use Prim.Native.Nat.{ℕ}
 use native.Mathlib.Omega.{arith}
 use lib.ListN.{getD}
 use Rattle.laws.proofs.Puts.{stored}
-use Rattle.reduction.specs.Keys.{Stand}
-use Rattle.reduction.proofs.Keys.{least-ext, turn-alone, turn-opened}
+use Rattle.reduction.specs.RunningKeys.{Stand}
+use Rattle.reduction.proofs.cover.KeySteps.{least-ext, turn-alone, turn-opened}
 use borrow.Author.Needs.{needs}
 use Rattle.reduction.proofs.cover.turn.Statement.{statement}
 use Rattle.reduction.proofs.cover.turn.Tie as tie

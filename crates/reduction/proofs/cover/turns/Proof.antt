@@ -4,8 +4,8 @@ use mathlib.Core.Path.{_≡_, sym, _∙_, ap}
 use Prim.Native.Nat.{_≤_, _-_, _+_}
 use native.Mathlib.Nat.{sub-zero}
 use native.Mathlib.Omega.{arith}
-use Rattle.reduction.specs.Keys.{Stand, turn, turns}
-use Rattle.reduction.proofs.Keys.{turns-stop, turns-more}
+use Rattle.reduction.specs.RunningKeys.{Stand, turn, turns}
+use Rattle.reduction.proofs.cover.KeySteps.{turns-stop, turns-more}
 use borrow.Author.Needs.{needs}
 use Rattle.reduction.proofs.cover.turns.Statement.{statement}
 use Rattle.reduction.proofs.cover.turns.Tie as tie

@@ -8,7 +8,7 @@ use lib.ListN.{getD}
 use Rattle.laws.specs.Tests.{any}
 use Rattle.laws.specs.Bits.{flag}
 use Rattle.laws.proofs.Bits.{flag-is}
-use Rattle.reduction.proofs.Hash.{any-flag}
+use Rattle.laws.proofs.Bits.{any-flag}
 use borrow.Author.Needs.{needs}
 use native.Mathlib.Omega.{arith}
 use Rattle.reduction.proofs.distinct.any_key.Statement.{statement}

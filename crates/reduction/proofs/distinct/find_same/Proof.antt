@@ -6,8 +6,8 @@ use native.Mathlib.Nat.{sub-zero}
 use lib.ListN.{getD}
 use Rattle.laws.specs.Tests.{find, least}
 use Rattle.laws.proofs.Find.{find-stop, find-skip, find-none}
-use Rattle.reduction.specs.Hash.{isKept}
-use Rattle.reduction.proofs.Hash.{matched}
+use Rattle.reduction.specs.ColumnHashes.{isKept}
+use Rattle.reduction.proofs.distinct.ColumnHashes.{matched}
 use borrow.Author.Needs.{needs}
 use native.Mathlib.Omega.{arith}
 use Rattle.reduction.proofs.distinct.find_same.Statement.{statement}

@@ -1,7 +1,7 @@
 -- `reduction::distinct::fold` meets its contract.
 -- Assumes nothing.
 use mathlib.Core.Path.{refl}
-use Rattle.reduction.specs.Hash.{folded}
+use Rattle.reduction.specs.ColumnHashes.{folded}
 use borrow.Author.Needs.{needs}
 use Rattle.reduction.proofs.distinct.fold.Statement.{statement}
 use Rattle.reduction.proofs.distinct.fold.Tie as tie

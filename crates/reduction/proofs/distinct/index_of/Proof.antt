@@ -1,7 +1,7 @@
 -- `reduction::distinct::index_of` meets its contract.
 -- Assumes nothing.
 use mathlib.Core.Path.{sym, _∙_}
-use Rattle.reduction.proofs.Hash.{no-key}
+use Rattle.reduction.proofs.distinct.ColumnHashes.{no-key}
 use borrow.Author.Needs.{needs}
 use Rattle.reduction.proofs.distinct.index_of.Statement.{statement}
 use Rattle.reduction.proofs.distinct.index_of.Tie as tie

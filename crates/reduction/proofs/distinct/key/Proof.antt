@@ -3,8 +3,8 @@
 use mathlib.Core.Path.{_≡_, refl, _∙_, ap}
 use Prim.Native.Nat.{ℕ, _≤_, _-_, _*_, _+_}
 use lib.ListN.{getD}
-use Rattle.reduction.specs.Hash.{stirred, stirredTo, folded, keyOf}
-use Rattle.reduction.proofs.Hash.{stirred-next}
+use Rattle.reduction.specs.ColumnHashes.{stirred, stirredTo, folded, keyOf}
+use Rattle.reduction.proofs.distinct.ColumnHashes.{stirred-next}
 use borrow.Author.Needs.{needs}
 use native.Mathlib.Omega.{arith}
 use Rattle.reduction.proofs.distinct.key.Statement.{statement}

@@ -7,10 +7,10 @@ use lib.Seq.{sets}
 use Rattle.laws.specs.Lists.{puts}
 use Rattle.laws.proofs.Lists.{row-end}
 use Rattle.laws.proofs.Puts.{puts-none, puts-next}
-use Rattle.reduction.specs.Numbering.{indexIn, firstsOf}
+use Rattle.reduction_spec.specs.Numbering.{indexIn, firstsOf}
 use Rattle.reduction.specs.Distinct.{sameWords}
-use Rattle.reduction.specs.Hash.{keyOf}
-use Rattle.reduction.proofs.Held.{HeldWords, held-none, held-index, held-inside, held-small, held-room, held-next, held-full, held-count, held-copy}
+use Rattle.reduction.specs.ColumnHashes.{keyOf}
+use Rattle.reduction.proofs.distinct.NumberedSoFar.{HeldWords, held-none, held-index, held-inside, held-small, held-room, held-next, held-full, held-count, held-copy}
 use borrow.Author.Needs.{needs}
 use native.Mathlib.Omega.{arith}
 use Rattle.reduction.proofs.distinct.number.Statement.{statement}

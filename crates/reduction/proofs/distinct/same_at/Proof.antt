@@ -6,7 +6,8 @@ use Prim.Native.Nat.{ℕ, _≤_, _-_}
 use Rattle.laws.specs.Tests.{every}
 use Rattle.laws.proofs.Tests.{every-fails}
 use Rattle.reduction.specs.Distinct.{sameWords}
-use Rattle.reduction.proofs.Hash.{sameWord, every-more, same-word, differ-zero, differ-one}
+use Rattle.reduction.proofs.distinct.ColumnHashes.{sameWord, same-word, differ-zero, differ-one}
+use Rattle.laws.proofs.Tests.{every-more}
 use borrow.Author.Needs.{needs}
 use native.Mathlib.Omega.{arith}
 use Rattle.reduction.proofs.distinct.same_at.Statement.{statement}

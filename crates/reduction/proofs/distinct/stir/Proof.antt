@@ -1,7 +1,7 @@
 -- `reduction::distinct::stir` meets its contract.
 -- Assumes nothing.
 use mathlib.Core.Path.{refl}
-use Rattle.reduction.specs.Hash.{stirred}
+use Rattle.reduction.specs.ColumnHashes.{stirred}
 use Rattle.reduction.proofs.distinct.stir.Statement.{statement}
 use Rattle.reduction.proofs.distinct.stir.Tie as tie
 

@@ -1,7 +1,7 @@
 -- `reduction::heights::group` meets its contract.
 -- Assumes nothing.
 use mathlib.Core.Path.{_∙_}
-use Rattle.reduction.proofs.Grouped.{link-length, link-mutual, owned-below, owned-alike, cliques-count, cliques-numbered}
+use Rattle.reduction.proofs.heights.CliquesFound.{link-length, link-mutual, owned-below, owned-alike, cliques-count, cliques-numbered}
 use borrow.Author.Needs.{needs}
 use Rattle.reduction.proofs.heights.group.Statement.{statement}
 use Rattle.reduction.proofs.heights.group.Tie as tie

@@ -3,7 +3,7 @@
 use mathlib.Core.Path.{_∙_}
 use Prim.Native.Nat.{_≤_}
 use Rattle.reduction.specs.Lowering.{candidateCount, planeBelow}
-use Rattle.reduction.proofs.LowerSteps.{cands-few, cands-room, too-many, first-room, cliques-answer, columns-room, product-is, number-few, below-is}
+use Rattle.reduction.proofs.heights.LoweringArrays.{cands-few, cands-room, too-many, first-room, cliques-answer, columns-room, product-is, number-few, below-is}
 use native.Mathlib.Omega.{arith}
 use borrow.Author.Needs.{needs}
 use Rattle.reduction.proofs.heights.lower.Statement.{statement}

@@ -5,9 +5,10 @@ use mathlib.Core.Bool.{true}
 use mathlib.Core.List.{List}
 use Prim.Native.Nat.{_*_, _≤_}
 use lib.Seq.{sets}
-use Rattle.reduction.specs.Diagram.{Node, nodeWords}
+use Rattle.reduction_spec.specs.declared.Node.{Node}
+use Rattle.reduction_spec.specs.Diagram.{nodeWords}
 use Rattle.reduction.specs.Lowering.{candidateCount}
-use Rattle.reduction.proofs.Over.{stopped, went, below-few, inputs-over}
+use Rattle.reduction.proofs.heights.NodesStored.{stopped, went, below-few, inputs-over}
 use native.Mathlib.Omega.{arith}
 use borrow.Author.Needs.{needs}
 use Rattle.reduction.proofs.heights.lower_input.Statement.{statement}

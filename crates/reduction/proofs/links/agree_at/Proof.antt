@@ -7,8 +7,8 @@ use borrow.Author.Tests.{eq-eqb, ne-eqb}
 use Rattle.laws.specs.Tests.{every}
 use Rattle.laws.proofs.Tests.{every-fails}
 use Rattle.reduction.specs.Distinct.{agreeWords}
-use Rattle.reduction.proofs.Hash.{every-more}
-use Rattle.reduction.proofs.Linked.{agreeWord}
+use Rattle.laws.proofs.Tests.{every-more}
+use Rattle.reduction.proofs.links.LinkRows.{agreeWord}
 use borrow.Author.Needs.{needs}
 use native.Mathlib.Omega.{arith}
 use Rattle.reduction.proofs.links.agree_at.Statement.{statement}

@@ -1,7 +1,7 @@
 -- `reduction::links::byte_of` meets its contract.
 -- Assumes nothing.
 use mathlib.Core.Path.{refl}
-use Rattle.reduction.specs.Bytes.{byteOf}
+use Rattle.reduction.specs.FirstBytes.{byteOf}
 use borrow.Author.Needs.{needs}
 use native.Mathlib.Omega.{arith}
 use Rattle.reduction.proofs.links.byte_of.Statement.{statement}

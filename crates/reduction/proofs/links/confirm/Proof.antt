@@ -5,7 +5,7 @@ use mathlib.Core.Bool.{true, false}
 use lib.Dec.{eqb}
 use borrow.Author.Tests.{eq-eqb, ne-eqb}
 use Rattle.reduction.specs.Distinct.{agreeWords}
-use Rattle.reduction.specs.Bytes.{confirmed}
+use Rattle.reduction.specs.FirstBytes.{confirmed}
 use borrow.Author.Needs.{needs}
 use Rattle.reduction.proofs.links.confirm.Statement.{statement}
 use Rattle.reduction.proofs.links.confirm.Tie as tie

@@ -6,7 +6,7 @@ use Prim.Native.Nat.{ℕ, _≤_, _-_}
 use lib.ListN.{getD}
 use Rattle.laws.specs.Lists.{puts}
 use Rattle.laws.proofs.Puts.{puts-none, puts-next, getD-unput}
-use Rattle.reduction.specs.Bytes.{confirmed}
+use Rattle.reduction.specs.FirstBytes.{confirmed}
 use borrow.Author.Needs.{needs}
 use native.Mathlib.Omega.{arith}
 use Rattle.reduction.proofs.links.confirm_row.Statement.{statement}

@@ -3,9 +3,9 @@
 use mathlib.Core.Bool.{Bool}
 use Prim.Native.Nat.{ℕ}
 use Rattle.reduction.specs.Distinct.{linkedWords}
-use Rattle.reduction.specs.Bytes.{agreeTo}
-use Rattle.reduction.proofs.Bytes.{flags-ext, flags-put}
-use Rattle.reduction.proofs.Linked.{linked-one, linked-none, linked-confirmed}
+use Rattle.reduction.specs.FirstBytes.{agreeTo}
+use Rattle.reduction.proofs.links.FirstBytes.{flags-ext, flags-put}
+use Rattle.reduction.proofs.links.LinkRows.{linked-one, linked-none, linked-confirmed}
 use borrow.Author.Needs.{needs}
 use Rattle.reduction.proofs.links.fill_row.Statement.{statement}
 use Rattle.reduction.proofs.links.fill_row.Tie as tie

@@ -10,7 +10,7 @@ use Rattle.laws.proofs.Bits.{flag-is}
 use Rattle.laws.proofs.Lists.{row-end}
 use Rattle.reduction.specs.Distinct.{linkedWords}
 use Rattle.laws.proofs.Puts.{putsAt-ext}
-use Rattle.reduction.proofs.Bytes.{marks-any}
+use Rattle.laws.proofs.Marks.{marks-any}
 use borrow.Author.Needs.{needs}
 use native.Mathlib.Omega.{arith}
 use Rattle.reduction.proofs.links.link_row.Statement.{statement}

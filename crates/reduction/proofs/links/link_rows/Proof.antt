@@ -8,7 +8,7 @@ use Rattle.laws.specs.Tests.{any}
 use Rattle.laws.specs.Lists.{rect}
 use Rattle.laws.specs.Bits.{flag}
 use Rattle.laws.proofs.Puts.{putsAt-rect}
-use Rattle.sheet.proofs.Loops.{any-step}
+use Rattle.laws.proofs.Tests.{any-step}
 use Rattle.reduction.specs.Distinct.{linkedWords}
 use borrow.Author.Needs.{needs}
 use native.Mathlib.Omega.{arith}

@@ -7,9 +7,9 @@ use lib.Bits.{bitAnd}
 use lib.ListN.{getD}
 use Rattle.laws.specs.Lists.{puts}
 use Rattle.laws.proofs.Puts.{puts-none, puts-next, getD-unput}
-use Rattle.sheet.specs.Planes.{marks}
-use Rattle.reduction.specs.Bytes.{narrowed}
-use Rattle.reduction.proofs.Bytes.{marks-step}
+use Rattle.laws.specs.Bits.{marks}
+use Rattle.reduction.specs.FirstBytes.{narrowed}
+use Rattle.laws.proofs.Marks.{marks-step}
 use borrow.Author.Needs.{needs}
 use native.Mathlib.Omega.{arith}
 use Rattle.reduction.proofs.links.narrow.Statement.{statement}

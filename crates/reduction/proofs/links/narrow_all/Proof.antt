@@ -4,9 +4,10 @@ use mathlib.Core.Path.{_≡_, sym, _∙_}
 use mathlib.Core.Bool.{false, true≢false}
 use Prim.Native.Nat.{_≤_, _-_, _+_}
 use Rattle.laws.specs.Tests.{any}
-use Rattle.reduction.specs.Bytes.{Flags, other, agreeTo}
-use Rattle.reduction.proofs.Bytes.{flag-zero, flags-ext, agree-none}
-use Rattle.reduction.proofs.Linked.{fewer-left, narrow-step, narrow-done}
+use Rattle.reduction.specs.FirstBytes.{Flags, other, agreeTo}
+use Rattle.laws.proofs.Bits.{flag-zero}
+use Rattle.reduction.proofs.links.FirstBytes.{flags-ext, agree-none}
+use Rattle.reduction.proofs.links.LinkRows.{fewer-left, narrow-step, narrow-done}
 use borrow.Author.Needs.{needs}
 use native.Mathlib.Omega.{arith}
 use Rattle.reduction.proofs.links.narrow_all.Statement.{statement}

@@ -3,8 +3,8 @@
 use mathlib.Core.Path.{_≡_}
 use Prim.Native.Nat.{_≤_, _-_}
 use native.Mathlib.Nat.{not-suc-le-zero}
-use Rattle.reduction.specs.Bytes.{Spread}
-use Rattle.reduction.proofs.Bytes.{spread-next}
+use Rattle.reduction.specs.FirstBytes.{Spread}
+use Rattle.reduction.proofs.links.FirstBytes.{spread-next}
 use borrow.Author.Needs.{needs}
 use native.Mathlib.Omega.{arith}
 use Rattle.reduction.proofs.links.spread.Statement.{statement}

@@ -7,7 +7,7 @@ use lib.ListN.{getD}
 use Rattle.laws.specs.Lists.{putsAt}
 use Rattle.laws.proofs.Cases.{last-or-below}
 use Rattle.laws.proofs.Puts.{putsAt-none, putsAt-next}
-use Rattle.reduction.specs.Bytes.{byteOf, firstWord, byteAt, Short}
+use Rattle.reduction.specs.FirstBytes.{byteOf, firstWord, byteAt, Short}
 use borrow.Author.Needs.{needs}
 use native.Mathlib.Omega.{arith}
 use Rattle.reduction.proofs.links.spread_byte.Statement.{statement}

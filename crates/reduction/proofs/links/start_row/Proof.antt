@@ -1,6 +1,6 @@
 -- `reduction::links::start_row` meets its contract.
 -- Assumes nothing.
-use Rattle.reduction.proofs.Bytes.{flags-start}
+use Rattle.reduction.proofs.links.FirstBytes.{flags-start}
 use borrow.Author.Needs.{needs}
 use Rattle.reduction.proofs.links.start_row.Statement.{statement}
 use Rattle.reduction.proofs.links.start_row.Tie as tie

@@ -5,8 +5,8 @@ use Prim.Native.Nat.{ℕ, _≤_, _-_}
 use lib.ListN.{getD}
 use Rattle.laws.specs.Lists.{putsAt}
 use Rattle.laws.proofs.Puts.{putsAt-none, putsAt-next}
-use Rattle.sheet.specs.Planes.{marks}
-use Rattle.reduction.proofs.Bytes.{marks-step}
+use Rattle.laws.specs.Bits.{marks}
+use Rattle.laws.proofs.Marks.{marks-step}
 use borrow.Author.Needs.{needs}
 use native.Mathlib.Omega.{arith}
 use Rattle.reduction.proofs.links.store_row.Statement.{statement}

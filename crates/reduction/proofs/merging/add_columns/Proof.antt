@@ -4,7 +4,7 @@ use mathlib.Core.Path.{_≡_, sym, _∙_, ap}
 use Prim.Native.Nat.{ℕ, _≤_, _-_, _*_}
 use lib.ListN.{getD}
 use Rattle.reduction.specs.Packed.{addedColumns}
-use Rattle.reduction.proofs.Owners.{added-none, added-next}
+use Rattle.reduction.proofs.merging.CliqueNumbers.{added-none, added-next}
 use native.Mathlib.Omega.{arith}
 use borrow.Author.Needs.{needs}
 use Rattle.reduction.proofs.merging.add_columns.Statement.{statement}

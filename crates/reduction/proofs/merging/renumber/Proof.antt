@@ -5,9 +5,9 @@ use Prim.Native.Nat.{ℕ, _≤_, _<_, _-_, _+_}
 use lib.ListN.{length}
 use Rattle.laws.specs.Lists.{puts}
 use Rattle.laws.proofs.Puts.{puts-none, puts-next}
-use Rattle.reduction.specs.Numbering.{indexIn, firstsOf}
+use Rattle.reduction_spec.specs.Numbering.{indexIn, firstsOf}
 use Rattle.reduction.specs.Distinct.{sameOwner}
-use Rattle.reduction.proofs.Owners.{Marks, first-marks, first-count, found, found-count, found-next, few}
+use Rattle.reduction.proofs.merging.CliqueNumbers.{Marks, first-marks, first-count, found, found-count, found-next, few}
 use native.Mathlib.Omega.{arith}
 use borrow.Author.Needs.{needs}
 use Rattle.reduction.proofs.merging.renumber.Statement.{statement}

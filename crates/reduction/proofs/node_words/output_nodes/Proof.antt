@@ -7,8 +7,9 @@ use lib.Dec.{eqb}
 use lib.ListN.{getD}
 use lib.Seq.{sets}
 use Rattle.laws.specs.Lists.{tab}
-use Rattle.reduction.specs.Diagram.{Node, node, nodeWords}
-use Rattle.reduction.proofs.NodeTable.{node-next}
+use Rattle.reduction_spec.specs.declared.Node.{Node}
+use Rattle.reduction_spec.specs.Diagram.{node, nodeWords}
+use Rattle.reduction_spec.proofs.NodeWords.{node-next}
 use native.Mathlib.Omega.{arith}
 use borrow.Author.Needs.{needs}
 use Rattle.reduction.proofs.node_words.output_nodes.Statement.{statement}

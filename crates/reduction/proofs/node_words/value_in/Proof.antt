@@ -5,7 +5,7 @@ use mathlib.Core.Bool.{cond}
 use borrow.Author.Tests.{eq-eqb, ne-eqb}
 use Rattle.laws.specs.Bits.{bit, has}
 use Rattle.laws.proofs.Cases.{cond-yes, cond-no}
-use Rattle.sheet.specs.Values.{free}
+use Rattle.sheet_spec.specs.Values.{free}
 use Rattle.reduction.specs.Packed.{valueIn}
 use borrow.Author.Needs.{needs}
 use Rattle.reduction.proofs.node_words.value_in.Statement.{statement}

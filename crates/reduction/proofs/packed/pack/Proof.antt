@@ -10,7 +10,7 @@ use lib.Dec.{eqb}
 use lib.ListN.{getD, replicate, getD-replicate}
 use Rattle.laws.specs.Lists.{puts}
 use Rattle.laws.proofs.Puts.{puts-ext}
-use Rattle.sheet.specs.Planes.{marks}
+use Rattle.laws.specs.Bits.{marks}
 use Rattle.reduction.specs.Packed.{packedWord, placesWith, linesWith}
 use borrow.Author.Needs.{needs}
 use Rattle.reduction.proofs.packed.pack.Statement.{statement}

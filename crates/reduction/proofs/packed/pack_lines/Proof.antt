@@ -8,8 +8,8 @@ use lib.Bits.{bitOr}
 use lib.ListN.{getD}
 use Rattle.laws.specs.Lists.{puts}
 use Rattle.laws.proofs.Lists.{row-end}
-use Rattle.sheet.specs.Planes.{marks}
-use Rattle.sheet.proofs.Blocks.{marks-next, marks-start}
+use Rattle.laws.specs.Bits.{marks}
+use Rattle.laws.proofs.Marks.{marks-next, marks-start}
 use native.Mathlib.Omega.{arith}
 use borrow.Author.Needs.{needs}
 use Rattle.reduction.proofs.packed.pack_lines.Statement.{statement}

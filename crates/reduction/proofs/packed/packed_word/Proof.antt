@@ -6,7 +6,7 @@ use native.Mathlib.Numerals.{add-one}
 use lib.Bits.{bitOr}
 use lib.Pow.{shl-exact}
 use lib.ListN.{getD}
-use Rattle.sheet.specs.Planes.{marks}
+use Rattle.laws.specs.Bits.{marks}
 use Rattle.reduction.specs.Packed.{packedWord}
 use native.Mathlib.Omega.{arith}
 use borrow.Author.Needs.{needs}

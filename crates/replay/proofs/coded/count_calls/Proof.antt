@@ -9,7 +9,7 @@ use borrow.Author.Tests.{ne-eqb}
 use lib.ListN.{length, drop, length-drop}
 use Rattle.replay.specs.Coded.{size, callsIn, readable}
 use Rattle.replay.proofs.Reading.{readable-none}
-use Rattle.replay.proofs.Turns.{all-left, call-within, calls-turn, readable-turn, calls-over, readable-over}
+use Rattle.replay.proofs.LoopSteps.{all-left, call-within, calls-turn, readable-turn, calls-over, readable-over}
 use Rattle.replay.proofs.coded.count_calls.Statement.{statement}
 use Rattle.replay.proofs.coded.count_calls.Tie as tie
 

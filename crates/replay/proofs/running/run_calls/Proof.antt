@@ -9,11 +9,11 @@ use contract.Lifetimes.{Lfts}
 use Rattle.replay.specs.declared.calling.Called.{Called}
 use lib.ListN.{length, drop}
 use borrow.Author.Needs.{needs}
-use Rattle.bank.specs.State.{State, fresh}
-use Rattle.bank.specs.Given.{stateOf}
+use Rattle.bank_spec.specs.State.{State, fresh}
+use Rattle.bank_spec.specs.State.{stateOf}
 use Rattle.replay.specs.Coded.{callsIn, readable}
 use Rattle.replay.proofs.Traces.{Ran, ran, ran-whole}
-use Rattle.replay.proofs.Turns.{started-none, call-within, some-left, readable-turn, entry-room, rest-room, run-turn, run-over}
+use Rattle.replay.proofs.LoopSteps.{started-none, call-within, some-left, readable-turn, entry-room, rest-room, run-turn, run-over}
 use Rattle.replay.proofs.running.run_calls.Statement.{statement}
 use Rattle.replay.proofs.running.run_calls.Tie as tie
 use Rattle.replay.proofs.running.run_calls.Lts as lts

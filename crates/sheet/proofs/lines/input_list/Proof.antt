@@ -7,8 +7,8 @@ use native.Mathlib.Omega.{arith}
 use borrow.Author.Needs.{needs}
 use lib.ListN.{length, getD}
 use Rattle.laws.proofs.Cases.{either}
-use Rattle.sheet.specs.Job.{inputsTo}
-use Rattle.sheet.proofs.Lists.{Listed, listed-more, listed-same, input-here, no-input-here}
+use Rattle.sheet_spec.specs.Job.{inputsTo}
+use Rattle.sheet.proofs.lines.OrderLists.{Listed, listed-more, listed-same, input-here, no-input-here}
 use Rattle.sheet.proofs.lines.input_list.Statement.{statement}
 use Rattle.sheet.proofs.lines.input_list.Tie as tie
 

@@ -3,7 +3,7 @@
 use mathlib.Core.Path.{_∙_}
 use borrow.Author.Needs.{needs}
 use Rattle.sheet.specs.Planes.{inputArray, fieldArray}
-use Rattle.sheet.proofs.Made.{numbered}
+use Rattle.sheet.proofs.lines.TableMade.{numbered}
 use Rattle.sheet.proofs.lines.number_field.Statement.{statement}
 use Rattle.sheet.proofs.lines.number_field.Tie as tie
 

@@ -3,7 +3,7 @@
 use mathlib.Core.Path.{_∙_}
 use borrow.Author.Needs.{needs}
 use Rattle.sheet.specs.Planes.{byteArray}
-use Rattle.sheet.proofs.Made.{planed}
+use Rattle.sheet.proofs.lines.TableMade.{planed}
 use Rattle.sheet.proofs.lines.plane_of.Statement.{statement}
 use Rattle.sheet.proofs.lines.plane_of.Tie as tie
 

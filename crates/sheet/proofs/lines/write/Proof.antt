@@ -7,9 +7,9 @@ use native.Mathlib.Omega.{arith}
 use borrow.Author.Needs.{needs}
 use lib.Seq.{sets}
 use Rattle.sheet.specs.Planes.{outputArray}
-use Rattle.sheet.proofs.Good.{order-length}
-use Rattle.sheet.proofs.Least.{short}
-use Rattle.sheet.proofs.Made.{lined}
+use Rattle.sheet_spec.proofs.RecordFields.{order-length}
+use Rattle.sheet_spec.proofs.LeastRefusal.{short}
+use Rattle.sheet.proofs.lines.TableMade.{lined}
 use Rattle.sheet.proofs.lines.write.Statement.{statement}
 use Rattle.sheet.proofs.lines.write.Tie as tie
 

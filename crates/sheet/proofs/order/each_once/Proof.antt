@@ -6,9 +6,9 @@ use native.Mathlib.Omega.{arith}
 use borrow.Author.Needs.{needs}
 use lib.Dec.{eqb}
 use Rattle.laws.specs.Tests.{every}
-use Rattle.sheet.specs.Refusals.{times, eachOnce}
+use Rattle.sheet_spec.specs.Refusals.{times, eachOnce}
 use denote.Ref.{now}
-use Rattle.sheet.proofs.Loops.{every-step}
+use Rattle.laws.proofs.Tests.{every-step}
 use Rattle.sheet.proofs.order.each_once.Statement.{statement}
 use Rattle.sheet.proofs.order.each_once.Tie as tie
 

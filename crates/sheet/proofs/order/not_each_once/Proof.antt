@@ -2,7 +2,7 @@
 -- Assumes nothing.
 use borrow.Author.Tests.{eq-eqb, ne-eqb}
 use borrow.Author.Needs.{needs}
-use Rattle.sheet.specs.Refusals.{notEachOnce}
+use Rattle.sheet_spec.specs.Refusals.{notEachOnce}
 use Rattle.sheet.proofs.order.not_each_once.Statement.{statement}
 use Rattle.sheet.proofs.order.not_each_once.Tie as tie
 

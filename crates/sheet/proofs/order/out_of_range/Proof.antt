@@ -1,7 +1,7 @@
 -- `out_of_range` is refusal 1's test.
 -- Assumes nothing.
 use mathlib.Core.Bool.{and-assoc}
-use Rattle.sheet.specs.Refusals.{outOfRange}
+use Rattle.sheet_spec.specs.Refusals.{outOfRange}
 use Rattle.sheet.proofs.order.out_of_range.Statement.{statement}
 use Rattle.sheet.proofs.order.out_of_range.Tie as tie
 

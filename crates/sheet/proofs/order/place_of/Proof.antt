@@ -11,7 +11,7 @@ use lib.Dec.{eqb}
 use lib.ListN.{length, getD}
 use Rattle.laws.specs.Tests.{find}
 use Rattle.laws.proofs.Find.{find-stop, find-skip, find-none}
-use Rattle.sheet.specs.Refusals.{placeOf}
+use Rattle.sheet_spec.specs.Refusals.{placeOf}
 use denote.Ref.{now}
 use Rattle.sheet.proofs.order.place_of.Statement.{statement}
 use Rattle.sheet.proofs.order.place_of.Tie as tie

@@ -11,7 +11,7 @@ use lib.ListN.{length, getD}
 use Rattle.laws.specs.Tests.{count}
 use Rattle.laws.proofs.Counts.{count-yes, count-no}
 use Rattle.laws.proofs.Cases.{either}
-use Rattle.sheet.specs.Refusals.{times}
+use Rattle.sheet_spec.specs.Refusals.{times}
 use denote.Ref.{now}
 use Rattle.sheet.proofs.order.times.Statement.{statement}
 use Rattle.sheet.proofs.order.times.Tie as tie

@@ -6,10 +6,10 @@ use Prim.Native.Nat.{ℕ, _≤_, _-_}
 use native.Mathlib.Omega.{arith}
 use borrow.Author.Needs.{needs}
 use Rattle.laws.specs.Tests.{any}
-use Rattle.sheet.specs.Job.{outputByte}
+use Rattle.sheet_spec.specs.Job.{outputByte}
 use Rattle.sheet.specs.Pairs.{belowMask, crosses, anyCrosses}
 use denote.Ref.{now}
-use Rattle.sheet.proofs.Loops.{any-step}
+use Rattle.laws.proofs.Tests.{any-step}
 use Rattle.sheet.proofs.pairs.any_crosses.Statement.{statement}
 use Rattle.sheet.proofs.pairs.any_crosses.Tie as tie
 

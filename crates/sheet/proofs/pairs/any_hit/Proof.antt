@@ -2,7 +2,7 @@
 -- Assumes nothing.
 use borrow.Author.Needs.{needs}
 use denote.Ref.{now}
-use Rattle.sheet.proofs.Loops.{any-hit-of}
+use Rattle.sheet.proofs.pairs.LoopSteps.{any-hit-of}
 use Rattle.sheet.proofs.pairs.any_hit.Statement.{statement}
 use Rattle.sheet.proofs.pairs.any_hit.Tie as tie
 

@@ -7,7 +7,7 @@ use borrow.Author.Needs.{needs}
 use Rattle.laws.proofs.Cases.{either}
 use Rattle.sheet.specs.Pairs.{belowMask}
 use denote.Ref.{now}
-use Rattle.sheet.proofs.Loops.{below-yes, below-no}
+use Rattle.sheet.proofs.pairs.LoopSteps.{below-yes, below-no}
 use Rattle.sheet.proofs.pairs.below_mask.Statement.{statement}
 use Rattle.sheet.proofs.pairs.below_mask.Tie as tie
 

@@ -7,7 +7,7 @@ use borrow.Author.Needs.{needs}
 use Rattle.laws.specs.Tests.{any}
 use Rattle.sheet.specs.Pairs.{hitIn}
 use denote.Ref.{now}
-use Rattle.sheet.proofs.Loops.{any-step}
+use Rattle.laws.proofs.Tests.{any-step}
 use Rattle.sheet.proofs.pairs.hit_among.Statement.{statement}
 use Rattle.sheet.proofs.pairs.hit_among.Tie as tie
 

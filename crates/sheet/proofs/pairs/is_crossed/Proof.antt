@@ -9,10 +9,11 @@ use lib.ListN.{length}
 use lib.Dec.{eqb}
 use lib.Bits.{bitAnd}
 use Rattle.laws.specs.Tests.{any}
-use Rattle.sheet.specs.Records.{names, mask}
+use Rattle.sheet_spec.specs.Records.{names, mask}
 use Rattle.sheet.specs.Pairs.{crosses}
 use denote.Ref.{now}
-use Rattle.sheet.proofs.Loops.{any-step, crossed-of}
+use Rattle.laws.proofs.Tests.{any-step}
+use Rattle.sheet.proofs.pairs.LoopSteps.{crossed-of}
 use Rattle.sheet.proofs.pairs.is_crossed.Statement.{statement}
 use Rattle.sheet.proofs.pairs.is_crossed.Tie as tie
 

@@ -8,8 +8,10 @@ use borrow.Author.Needs.{needs}
 use lib.Bits.{bitOr}
 use lib.ListN.{getD, replicate, length-replicate}
 use Rattle.laws.specs.Lists.{puts}
-use Rattle.sheet.specs.Planes.{added, highAdded, marks, CountsUp}
-use Rattle.sheet.proofs.Blocks.{counts-up, marks-start, marks-next}
+use Rattle.sheet.specs.Planes.{added, highAdded, CountsUp}
+use Rattle.laws.specs.Bits.{marks}
+use Rattle.sheet.proofs.planes.PlaceBlocks.{counts-up}
+use Rattle.laws.proofs.Marks.{marks-start, marks-next}
 use Rattle.sheet.proofs.planes.mark_high.Statement.{statement}
 use Rattle.sheet.proofs.planes.mark_high.Tie as tie
 

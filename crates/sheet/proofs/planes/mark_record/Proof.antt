@@ -11,7 +11,7 @@ use Rattle.laws.specs.Lists.{putsAt, puts}
 use Rattle.laws.proofs.Cases.{either}
 use Rattle.laws.proofs.Puts.{puts-none}
 use Rattle.sheet.specs.Planes.{added}
-use Rattle.sheet.proofs.Blocks.{marked-none, block-hit, block-miss, marked}
+use Rattle.sheet.proofs.planes.PlaceBlocks.{marked-none, block-hit, block-miss, marked}
 use Rattle.sheet.proofs.planes.mark_record.Statement.{statement}
 use Rattle.sheet.proofs.planes.mark_record.Tie as tie
 

@@ -10,7 +10,7 @@ use lib.ListN.{getD}
 use Rattle.laws.specs.Lists.{puts}
 use Rattle.laws.proofs.Puts.{puts-none, puts-next, getD-unput}
 use Rattle.sheet.specs.Planes.{added, CountsUp}
-use Rattle.sheet.proofs.Blocks.{marked, marked-none}
+use Rattle.sheet.proofs.planes.PlaceBlocks.{marked, marked-none}
 use Rattle.sheet.proofs.planes.mark_row.Statement.{statement}
 use Rattle.sheet.proofs.planes.mark_row.Tie as tie
 

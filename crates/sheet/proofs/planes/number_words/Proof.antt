@@ -7,7 +7,7 @@ use borrow.Author.Needs.{needs}
 use lib.ListN.{getD}
 use Rattle.laws.specs.Lists.{puts}
 use Rattle.sheet.specs.Planes.{numberTo}
-use Rattle.sheet.proofs.Blocks.{numbers-start, numbers-next}
+use Rattle.sheet.proofs.planes.PlaceBlocks.{numbers-start, numbers-next}
 use Rattle.sheet.proofs.planes.number_words.Statement.{statement}
 use Rattle.sheet.proofs.planes.number_words.Tie as tie
 

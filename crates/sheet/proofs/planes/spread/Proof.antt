@@ -8,7 +8,7 @@ use lib.Bits.{bitOr}
 use lib.ListN.{getD}
 use Rattle.laws.specs.Lists.{puts}
 use Rattle.laws.proofs.Puts.{puts-none}
-use Rattle.sheet.proofs.Blocks.{spread-next}
+use Rattle.sheet.proofs.planes.PlaceBlocks.{spread-next}
 use Rattle.sheet.proofs.planes.spread.Statement.{statement}
 use Rattle.sheet.proofs.planes.spread.Tie as tie
 

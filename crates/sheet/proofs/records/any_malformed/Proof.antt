@@ -6,9 +6,9 @@ use native.Mathlib.Omega.{arith}
 use borrow.Author.Needs.{needs}
 use lib.ListN.{length}
 use Rattle.laws.specs.Tests.{any}
-use Rattle.sheet.specs.Refusals.{malformed, anyMalformed}
+use Rattle.sheet_spec.specs.Refusals.{malformed, anyMalformed}
 use denote.Ref.{now}
-use Rattle.sheet.proofs.Loops.{any-step}
+use Rattle.laws.proofs.Tests.{any-step}
 use Rattle.sheet.proofs.records.any_malformed.Statement.{statement}
 use Rattle.sheet.proofs.records.any_malformed.Tie as tie
 

@@ -2,7 +2,7 @@
 -- Assumes nothing.
 use borrow.Author.Needs.{needs}
 use denote.Ref.{now}
-use Rattle.sheet.proofs.Loops.{malformed-of}
+use Rattle.sheet.proofs.records.RecordTests.{malformed-of}
 use Rattle.sheet.proofs.records.is_malformed.Statement.{statement}
 use Rattle.sheet.proofs.records.is_malformed.Tie as tie
 

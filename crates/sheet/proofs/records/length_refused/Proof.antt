@@ -1,7 +1,7 @@
 -- `length_refused` is refusal 3's test.
 -- Assumes nothing.
 use borrow.Author.Tests.{eq-eqb, ne-eqb}
-use Rattle.sheet.specs.Refusals.{refuse3}
+use Rattle.sheet_spec.specs.Refusals.{refuse3}
 use Rattle.sheet.proofs.records.length_refused.Statement.{statement}
 use Rattle.sheet.proofs.records.length_refused.Tie as tie
 

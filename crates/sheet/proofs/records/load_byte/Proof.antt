@@ -7,7 +7,7 @@ use borrow.Author.Needs.{needs}
 use lib.ListN.{length}
 use Rattle.laws.specs.Lists.{puts}
 use Rattle.laws.proofs.Puts.{puts-next}
-use Rattle.sheet.specs.Records.{byte}
+use Rattle.sheet_spec.specs.Records.{byte}
 use denote.Ref.{now}
 use Rattle.sheet.proofs.records.load_byte.Statement.{statement}
 use Rattle.sheet.proofs.records.load_byte.Tie as tie

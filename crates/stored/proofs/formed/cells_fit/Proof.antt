@@ -1,9 +1,9 @@
 -- `cells_fit` tests each cell.
 -- Assumes nothing.
-use Rattle.stored.proofs.CellsRead.{Begun, turn, none-begun, begun-small, few-now, turn-begun, turn-fit}
-use Rattle.stored.proofs.StoredCells.{cellsTo, fitAll, begin, fit-all}
+use Rattle.stored.proofs.RecordSteps.{Begun, turn, none-begun, begun-small, few-now, turn-begun, turn-fit}
+use Rattle.stored_spec.proofs.StoredCells.{cellsTo, fitAll, begin, fit-all}
 use mathlib.Core.Path.{_≡_, sym, _∙_}
-use Rattle.stored.specs.Stored.{recordCount}
+use Rattle.stored_spec.specs.StoredForm.{recordCount}
 use native.Mathlib.Omega.{arith}
 use Prim.Native.Nat.{_≤_, _-_}
 use denote.Ref.{now}

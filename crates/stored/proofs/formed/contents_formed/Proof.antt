@@ -6,8 +6,8 @@ use Prim.Native.Nat.{ℕ, _-_}
 use lib.Dec.{eqb, leb}
 use denote.Ref.{now}
 use Rattle.laws.specs.Tests.{every}
-use Rattle.stored.specs.Stored.{recordCount, cutByte, railByte, recordFormed, cellCount, cellFormed, rowCount}
-use Rattle.stored.proofs.StoredParts.{fourth-holds, fourth-fails}
+use Rattle.stored_spec.specs.StoredForm.{recordCount, cutByte, railByte, recordFormed, cellCount, cellFormed, rowCount}
+use Rattle.stored_spec.proofs.StoredParts.{fourth-holds, fourth-fails}
 use native.Mathlib.Omega.{arith}
 use borrow.Author.Needs.{needs}
 use Rattle.stored.proofs.formed.contents_formed.Statement.{statement}

@@ -5,8 +5,8 @@ use Prim.Native.Nat.{_≤_, _-_, _/_}
 use lib.ListN.{length}
 use denote.Ref.{now}
 use Rattle.laws.specs.Tests.{every}
-use Rattle.sheet.proofs.Loops.{every-step}
-use Rattle.stored.specs.Stored.{recordFormed}
+use Rattle.laws.proofs.Tests.{every-step}
+use Rattle.stored_spec.specs.StoredForm.{recordFormed}
 use native.Mathlib.Omega.{arith}
 use borrow.Author.Needs.{needs}
 use Rattle.stored.proofs.formed.each_formed.Statement.{statement}

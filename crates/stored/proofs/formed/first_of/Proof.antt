@@ -7,8 +7,8 @@ use Prim.Native.Nat.{_≤_, _-_}
 use lib.Dec.{eqb}
 use denote.Ref.{now}
 use Rattle.laws.specs.Tests.{every}
-use Rattle.sheet.proofs.Loops.{every-step}
-use Rattle.stored.specs.Stored.{variable}
+use Rattle.laws.proofs.Tests.{every-step}
+use Rattle.stored_spec.specs.StoredForm.{variable}
 use borrow.Author.Needs.{needs}
 use Rattle.stored.proofs.formed.first_of.Statement.{statement}
 use Rattle.stored.proofs.formed.first_of.Tie as tie

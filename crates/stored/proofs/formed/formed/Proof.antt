@@ -4,8 +4,8 @@ use mathlib.Core.Path.{sym, _∙_}
 use lib.ListN.{length}
 use borrow.Author.Tests.{eq-eqb, ne-eqb}
 use denote.Ref.{now}
-use Rattle.stored.specs.Stored.{rowCount, wellFormed}
-use Rattle.stored.proofs.StoredParts.{records-have}
+use Rattle.stored_spec.specs.StoredForm.{rowCount, wellFormed}
+use Rattle.stored_spec.proofs.StoredParts.{records-have}
 use native.Mathlib.Omega.{arith}
 use borrow.Author.Needs.{needs}
 use Rattle.stored.proofs.formed.formed.Statement.{statement}

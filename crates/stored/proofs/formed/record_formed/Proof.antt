@@ -1,6 +1,6 @@
 -- `record_formed` tests one record.
 -- Assumes nothing.
-use Rattle.stored.specs.Stored.{recordFormed}
+use Rattle.stored_spec.specs.StoredForm.{recordFormed}
 use borrow.Author.Needs.{needs}
 use Rattle.stored.proofs.formed.record_formed.Statement.{statement}
 use Rattle.stored.proofs.formed.record_formed.Tie as tie

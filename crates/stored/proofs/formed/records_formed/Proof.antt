@@ -2,8 +2,8 @@
 -- Assumes nothing.
 use mathlib.Core.Path.{sym, _∙_}
 use denote.Ref.{now}
-use Rattle.stored.specs.Stored.{recordsFormed}
-use Rattle.stored.proofs.StoredParts.{shape-has}
+use Rattle.stored_spec.specs.StoredForm.{recordsFormed}
+use Rattle.stored_spec.proofs.StoredParts.{shape-has}
 use native.Mathlib.Omega.{arith}
 use borrow.Author.Needs.{needs}
 use Rattle.stored.proofs.formed.records_formed.Statement.{statement}

@@ -1,7 +1,7 @@
 -- `row_count` counts the rows of well formed records.
 -- Assumes nothing.
 use denote.Ref.{now}
-use Rattle.stored.proofs.StoredParts.{records-have}
+use Rattle.stored_spec.proofs.StoredParts.{records-have}
 use native.Mathlib.Omega.{arith}
 use borrow.Author.Needs.{needs}
 use Rattle.stored.proofs.formed.row_count.Statement.{statement}

@@ -6,7 +6,7 @@ use lib.Dec.{ltb}
 use lib.ListN.{getD}
 use denote.Ref.{now}
 use Rattle.laws.specs.Tests.{every}
-use Rattle.sheet.proofs.Loops.{every-step}
+use Rattle.laws.proofs.Tests.{every-step}
 use native.Mathlib.Omega.{arith}
 use borrow.Author.Needs.{needs}
 use Rattle.stored.proofs.formed.rows_below.Statement.{statement}

@@ -3,9 +3,9 @@
 use mathlib.Core.Path.{_≡_, sym, _∙_, ap}
 use Prim.Native.Nat.{ℕ, _≤_, _<_, _-_, _*_, _^_}
 use denote.Ref.{now}
-use Rattle.stored.specs.Stored.{recordCount}
-use Rattle.stored.proofs.StoredCells.{cellsTo, rowSum, bytesFit, rowsBelow, begin, bytes-begin, bytes-all, cell-small, cell-inside}
-use Rattle.stored.proofs.CellsRead.{Begun, turn, none-begun, begun-small, few-now, inputs-now, outputs-now, turn-begun, turn-rows, turn-bytes}
+use Rattle.stored_spec.specs.StoredForm.{recordCount}
+use Rattle.stored_spec.proofs.StoredCells.{cellsTo, rowSum, bytesFit, rowsBelow, begin, bytes-begin, bytes-all, cell-small, cell-inside}
+use Rattle.stored.proofs.RecordSteps.{Begun, turn, none-begun, begun-small, few-now, inputs-now, outputs-now, turn-begun, turn-rows, turn-bytes}
 use native.Mathlib.Omega.{arith}
 use borrow.Author.Needs.{needs}
 use Rattle.stored.proofs.formed.rows_formed.Statement.{statement}

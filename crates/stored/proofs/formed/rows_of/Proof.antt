@@ -5,10 +5,10 @@ use mathlib.Core.Bool.{cond}
 use Prim.Native.Nat.{ℕ, _≤_, _+_, _-_, _*_}
 use lib.Dec.{eqb}
 use denote.Ref.{now}
-use Rattle.sheet.specs.Job.{isInput}
-use Rattle.stored.specs.Stored.{recordCount}
-use Rattle.stored.proofs.StoredCells.{cellsTo, rowSum, begunOuts, moreOuts, next-outs, begin, rows-all, cell-small}
-use Rattle.stored.proofs.CellsRead.{Begun, turn, none-begun, begun-small, few-now, inputs-now, turn-begun, turn-rows}
+use Rattle.sheet_spec.specs.Job.{isInput}
+use Rattle.stored_spec.specs.StoredForm.{recordCount}
+use Rattle.stored_spec.proofs.StoredCells.{cellsTo, rowSum, begunOuts, moreOuts, next-outs, begin, rows-all, cell-small}
+use Rattle.stored.proofs.RecordSteps.{Begun, turn, none-begun, begun-small, few-now, inputs-now, turn-begun, turn-rows}
 use native.Mathlib.Omega.{arith}
 use borrow.Author.Needs.{needs}
 use Rattle.stored.proofs.formed.rows_of.Statement.{statement}

@@ -7,11 +7,11 @@ use lib.Dec.{eqb}
 use lib.ListN.{length}
 use denote.Ref.{now}
 use Rattle.laws.proofs.Cases.{cond-both}
-use Rattle.sheet.specs.Job.{isInput}
-use Rattle.stored.specs.Stored.{recordCount}
+use Rattle.sheet_spec.specs.Job.{isInput}
+use Rattle.stored_spec.specs.StoredForm.{recordCount}
 use Rattle.stored.specs.Places.{CellPlace}
-use Rattle.stored.proofs.StoredCells.{cellsTo, rowSum, begunOuts, moreOuts, next-outs, begin, cell-small}
-use Rattle.stored.proofs.CellsRead.{Begun, turn, none-begun, begun-small, few-now, inputs-now, turn-begun, turn-rows}
+use Rattle.stored_spec.proofs.StoredCells.{cellsTo, rowSum, begunOuts, moreOuts, next-outs, begin, cell-small}
+use Rattle.stored.proofs.RecordSteps.{Begun, turn, none-begun, begun-small, few-now, inputs-now, turn-begun, turn-rows}
 use Rattle.stored.proofs.CellPlaces.{variableSum, placeIn, turn-cells, turn-top, turn-place, no-cells, place-all, begin-all}
 use native.Mathlib.Omega.{arith}
 use borrow.Author.Needs.{needs}

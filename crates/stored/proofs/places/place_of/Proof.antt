@@ -2,7 +2,7 @@
 -- Assumes nothing.
 use mathlib.Core.Path.{sym, _∙_}
 use denote.Ref.{now}
-use Rattle.stored.proofs.StoredParts.{records-have}
+use Rattle.stored_spec.proofs.StoredParts.{records-have}
 use Rattle.stored.proofs.CellPlaces.{place-none}
 use native.Mathlib.Omega.{arith}
 use borrow.Author.Needs.{needs}

@@ -6,9 +6,10 @@ use Prim.Native.Nat.{_≤_, _-_}
 use lib.ListN.{getD}
 use lib.Seq.{sets}
 use Rattle.laws.specs.Lists.{tab}
-use Rattle.stored.specs.ReadWrite.{recordBytes, recordsOf}
+use Rattle.stored_spec.specs.ReadWrite.{recordBytes}
+use Rattle.stored.specs.RecordArrays.{recordsOf}
 use native.Mathlib.Omega.{arith}
-use Rattle.stored.proofs.RecordBytes.{bytes-next}
+use Rattle.stored.proofs.read_write.RecordArrays.{bytes-next}
 use borrow.Author.Needs.{needs}
 use Rattle.stored.proofs.read_write.bytes_of.Statement.{statement}
 use Rattle.stored.proofs.read_write.bytes_of.Tie as tie

@@ -2,10 +2,11 @@
 -- Assumes nothing.
 use mathlib.Core.Path.{sym, _∙_, ap}
 use denote.Ref.{now}
-use Rattle.stored.specs.ReadWrite.{StoredRecords, cascadeOf, structureOf, readAs}
-use Rattle.stored.proofs.StoredParts.{records-have}
+use Rattle.stored.specs.RecordArrays.{StoredRecords, structureOf, readAs}
+use Rattle.stored_spec.specs.ReadWrite.{cascadeOf}
+use Rattle.stored_spec.proofs.StoredParts.{records-have}
 use Rattle.laws.specs.Lists.{puts}
-use Rattle.stored.proofs.ReadWriteCases.{formed-records, read-formed, read-other}
+use Rattle.stored_spec.proofs.ReadWriteCases.{formed-records, read-formed, read-other}
 use borrow.Author.Needs.{needs}
 use Rattle.stored.proofs.read_write.read_records.Statement.{statement}
 use Rattle.stored.proofs.read_write.read_records.Tie as tie

@@ -8,9 +8,9 @@ use lib.ListN.{replicate}
 use denote.Ref.{now}
 use Rattle.laws.specs.Lists.{puts}
 use Rattle.laws.proofs.Puts.{puts-none, puts-next}
-use Rattle.stored.specs.Stored.{variable, cutByte, railByte}
+use Rattle.stored_spec.specs.StoredForm.{variable, cutByte, railByte}
 use native.Mathlib.Omega.{arith}
-use Rattle.stored.proofs.ReadWriteCases.{taken-apart}
+use Rattle.stored.proofs.read_write.RecordArrays.{taken-apart}
 use borrow.Author.Needs.{needs}
 use Rattle.stored.proofs.read_write.take_apart.Statement.{statement}
 use Rattle.stored.proofs.read_write.take_apart.Tie as tie

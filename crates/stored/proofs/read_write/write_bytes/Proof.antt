@@ -7,8 +7,8 @@ use native.Mathlib.Omega.{arith}
 use lib.ListN.{length}
 use denote.Ref.{now}
 use Rattle.laws.proofs.Puts.{copied}
-use Rattle.stored.specs.ReadWrite.{writtenAs}
-use Rattle.stored.proofs.ReadWriteCases.{write-other, write-short, write-few, write-formed}
+use Rattle.stored_spec.specs.ReadWrite.{writtenAs}
+use Rattle.stored_spec.proofs.ReadWriteCases.{write-other, write-short, write-few, write-formed}
 use borrow.Author.Needs.{needs}
 use Rattle.stored.proofs.read_write.write_bytes.Statement.{statement}
 use Rattle.stored.proofs.read_write.write_bytes.Tie as tie

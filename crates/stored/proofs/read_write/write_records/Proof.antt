@@ -7,8 +7,10 @@ use native.Mathlib.Omega.{arith}
 use lib.ListN.{length}
 use lib.Seq.{length-take-le}
 use denote.Ref.{now}
-use Rattle.stored.specs.ReadWrite.{recordsOf, recordBytes, writeBytes, write}
-use Rattle.stored.proofs.ReadWriteCases.{too-many, length-records, stored-bytes, write-other}
+use Rattle.stored.specs.RecordArrays.{recordsOf}
+use Rattle.stored_spec.specs.ReadWrite.{recordBytes, writeBytes, write}
+use Rattle.stored.proofs.read_write.RecordArrays.{too-many, length-records, stored-bytes}
+use Rattle.stored_spec.proofs.ReadWriteCases.{write-other}
 use borrow.Author.Needs.{needs}
 use Rattle.stored.proofs.read_write.write_records.Statement.{statement}
 use Rattle.stored.proofs.read_write.write_records.Tie as tie

@@ -4,8 +4,8 @@ use mathlib.Core.Path.{_≡_, _∙_}
 use Prim.Native.Nat.{_≤_, _-_}
 use lib.ListN.{length}
 use denote.Ref.{now}
-use Rattle.stored.specs.Stored.{recordCount}
-use Rattle.stored.proofs.StoredCells.{cellsTo}
+use Rattle.stored_spec.specs.StoredForm.{recordCount}
+use Rattle.stored_spec.proofs.StoredCells.{cellsTo}
 use Rattle.stored.proofs.CellPlaces.{turn-cells}
 use Rattle.stored.proofs.CellReads.{cells-none, cells-all, few-cells}
 use native.Mathlib.Omega.{arith}

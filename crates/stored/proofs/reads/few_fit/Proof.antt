@@ -6,7 +6,7 @@ use lib.ListN.{length}
 use borrow.Author.Tests.{le-leb, lt-leb}
 use denote.Ref.{now}
 use Rattle.laws.specs.Tests.{every}
-use Rattle.stored.specs.Stored.{cellCount, cellFormed}
+use Rattle.stored_spec.specs.StoredForm.{cellCount, cellFormed}
 use Rattle.stored.specs.Reads.{cellsFit}
 use native.Mathlib.Omega.{arith}
 use borrow.Author.Needs.{needs}

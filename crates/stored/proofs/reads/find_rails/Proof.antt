@@ -4,8 +4,8 @@ use mathlib.Core.Path.{_≡_, refl, sym, _∙_, ap, ap₂}
 use Prim.Native.Nat.{ℕ, _≤_, _-_}
 use lib.ListN.{length}
 use denote.Ref.{now}
-use Rattle.stored.specs.Stored.{StoredCell, recordCount}
-use Rattle.stored.proofs.StoredCells.{cellsTo}
+use Rattle.stored_spec.specs.StoredForm.{StoredCell, recordCount}
+use Rattle.stored_spec.proofs.StoredCells.{cellsTo}
 use Rattle.stored.proofs.CellPlaces.{turn-cells}
 use Rattle.stored.proofs.CellReads.{partTo, turn-upper, turn-lower, part-none, cells-none, few-cells, cells-few, whole-part, rails-cell, some-rails}
 use native.Mathlib.Omega.{arith}

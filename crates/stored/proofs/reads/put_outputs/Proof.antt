@@ -5,10 +5,10 @@ use mathlib.Core.List.{List}
 use Prim.Native.Nat.{ℕ, _+_}
 use lib.ListN.{length}
 use denote.Ref.{now}
-use Rattle.stored.specs.Stored.{cellAt}
+use Rattle.stored_spec.specs.StoredForm.{cellAt}
 use Rattle.stored.specs.Reads.{CellRails, outputsRead}
 use Rattle.stored.proofs.CellReads.{few-outs, some-rails, rails-told, rows-told, some-outputs, no-outputs}
-use Rattle.stored.proofs.RowBits.{length-after}
+use Rattle.stored.proofs.reads.RowBits.{length-after}
 use native.Mathlib.Omega.{arith}
 use borrow.Author.Needs.{needs}
 use Rattle.stored.proofs.reads.put_outputs.Statement.{statement}

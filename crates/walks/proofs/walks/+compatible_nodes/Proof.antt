@@ -1,7 +1,7 @@
 -- `walks::walks::compatible_nodes` meets its contract. The measure is the height.
 -- Assumes nothing.
 use denote.Ref.{now}
-use Rattle.reduction.proofs.Steps.{compatible-bottom, compatible-left, compatible-right, compatible-both, compatible-low, compatible-fails, compatible-high, compatible-closed}
+use Rattle.reduction_spec.proofs.WalkSteps.{compatible-bottom, compatible-left, compatible-right, compatible-both, compatible-low, compatible-fails, compatible-high, compatible-closed}
 use borrow.Author.Needs.{needs}
 use Prim.Native.Nat.{ℕ, _<_}
 use borrow.Fn.Kinds.{In}

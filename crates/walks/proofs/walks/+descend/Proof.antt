@@ -3,7 +3,7 @@
 use Prim.Native.Nat.{ℕ, _+_, _-_, _<_}
 use native.Mathlib.Omega.{arith}
 use denote.Ref.{now}
-use Rattle.reduction.proofs.DescentSteps.{met-still, met-twice, met-more, met-few, descend-bottom, descend-stop, descend-input, descend-forced, descend-other}
+use Rattle.reduction_spec.proofs.DescentSteps.{met-still, met-twice, met-more, met-few, descend-bottom, descend-stop, descend-input, descend-forced, descend-other}
 use borrow.Author.Needs.{needs}
 use borrow.Fn.Kinds.{In}
 use borrow.Fn.PlainCycle.{Measures, is, falls, and}

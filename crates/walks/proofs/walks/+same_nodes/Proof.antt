@@ -1,7 +1,7 @@
 -- `walks::walks::same_nodes` meets its contract. The measure is the height.
 -- Assumes nothing.
 use denote.Ref.{now}
-use Rattle.reduction.proofs.Steps.{same-equal, same-bottom, same-left, same-right, same-low, same-high}
+use Rattle.reduction_spec.proofs.WalkSteps.{same-equal, same-bottom, same-left, same-right, same-low, same-high}
 use borrow.Author.Needs.{needs}
 use Prim.Native.Nat.{ℕ, _<_}
 use borrow.Fn.Kinds.{In}

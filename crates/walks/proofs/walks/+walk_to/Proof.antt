@@ -1,7 +1,7 @@
 -- `walks::walks::walk_to` meets its contract. The measure is the height.
 -- Assumes nothing.
 use denote.Ref.{now}
-use Rattle.reduction.proofs.Steps.{walk-bottom, walk-stop, walk-next}
+use Rattle.reduction_spec.proofs.WalkSteps.{walk-bottom, walk-stop, walk-next}
 use borrow.Author.Needs.{needs}
 use Prim.Native.Nat.{ℕ, _<_}
 use borrow.Fn.Kinds.{In}

@@ -3,7 +3,7 @@
 use mathlib.Core.Path.{sym, _∙_}
 use Rattle.laws.specs.Bits.{has}
 use Rattle.laws.proofs.Cases.{cond-yes, cond-no}
-use Rattle.reduction.specs.Walk.{child}
+use Rattle.reduction_spec.specs.Walk.{child}
 use borrow.Author.Needs.{needs}
 use Rattle.walks.proofs.walks.child_of.Statement.{statement}
 use Rattle.walks.proofs.walks.child_of.Tie as tie

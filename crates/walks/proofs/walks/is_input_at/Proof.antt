@@ -5,8 +5,8 @@ use Prim.Native.Nat.{ℕ, suc, _-_}
 use native.Mathlib.Omega.{arith}
 use lib.ListN.{length, getD}
 use denote.Ref.{now}
-use Rattle.sheet.specs.Job.{isInput}
-use Rattle.reduction.proofs.Steps.{empty-order, topmost}
+use Rattle.sheet_spec.specs.Job.{isInput}
+use Rattle.reduction_spec.proofs.WalkSteps.{empty-order, topmost}
 use borrow.Author.Needs.{needs}
 use Rattle.walks.proofs.walks.is_input_at.Statement.{statement}
 use Rattle.walks.proofs.walks.is_input_at.Tie as tie

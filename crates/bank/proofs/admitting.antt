@@ -1,0 +1,2 @@
+-- Laws of `src/admitting.rt`.
+pub mod AdmissionCases

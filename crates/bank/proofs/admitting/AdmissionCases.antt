@@ -1,0 +1,149 @@
+-- What admission answers and leaves, case by case: each refusal, and acceptance; and a bank that is made.
+-- Assumes nothing.
+use mathlib.Core.Path.{_≡_, refl, sym, _∙_, ap, ap₂}
+use mathlib.Core.Bool.{Bool, true, false, cond, _||_}
+use mathlib.Core.List.{List}
+use Prim.Native.Nat.{ℕ, _+_, _*_, _/_, _<_, _≤_}
+use native.Mathlib.Omega.{arith}
+use borrow.Author.Tests.{eqb-true, ltb-false, lt-ltb, le-ltb, le-leb, lt-leb}
+use lib.Dec.{eqb, ltb}
+use lib.ListN.{length, getD, set}
+use Rattle.laws.specs.Lists.{putsAt, written}
+use Rattle.laws.specs.Tests.{every}
+use Rattle.laws.proofs.Cases.{cond-yes, cond-no, and-split, or-split}
+use Rattle.laws.proofs.Puts.{copied-at}
+use Rattle.stored_spec.specs.StoredForm.{wellFormed, recordsFormed, rowsFormed, recordCount, cellCount, rowCount}
+use Rattle.stored.specs.Reads.{rowsCounted}
+use Rattle.stored_spec.proofs.StoredParts.{records-have}
+use Rattle.stored.proofs.CellReads.{cells-all, cells-few, formed-fit, rows-counted}
+use Rattle.bank_spec.specs.State.{State, cellsBefore, rowsBefore, cellsHeld, rowsHeld, bankFormed, scanFormed, formed, atRest, emptyBank, limitRefused, stateOf}
+use Rattle.bank_spec.specs.declared.Bank.{Bank}
+use Rattle.bank_spec.specs.declared.Scan.{Scan}
+use Rattle.bank_spec.specs.Calls.{After, numbered, admitRefusal, withBlock, admitted, admit}
+use Rattle.bank.specs.Given.{Started, givenNumber, started}
+use Rattle.bank.proofs.formed.HeldBlocks.{BankHas, bank-has}
+
+-- a bank that is made
+abbrev refusedStart : Started
+refusedStart = record { refusal = 1; bank = emptyBank 0; scan = atRest }
+
+abbrev madeStart : ℕ → Started
+madeStart S = record { refusal = 0; bank = emptyBank S; scan = atRest }
+
+pub started-low : (S : ℕ) → S < 1 → refusedStart ≡ started S
+unfolding started limitRefused
+started-low S l = rw (lt-leb 1 S l) refl
+
+pub started-high : (S : ℕ) → 1 ≤ S → 255 < S → refusedStart ≡ started S
+unfolding started limitRefused
+started-high S l h = rw (le-leb 1 S l, lt-leb S 255 h) refl
+
+pub started-good : (S : ℕ) → 1 ≤ S → S ≤ 255 → madeStart S ≡ started S
+unfolding started limitRefused
+started-good S l h = rw (le-leb 1 S l, le-leb S 255 h) refl
+
+-- the bank with the block, from its parts
+pub block-added : (k : Bank) (R : List ℕ) {n : ℕ} {held : List ℕ} → n ≡ k .count → n * 80 + length R ≤ length (k .records)
+    → held ≡ putsAt (n * 80) (length R) (λ i. getD R i 0) (k .records)
+    → record { limit = k .limit; count = k .count + 1; lengths = set (k .lengths) n (length R / 4); records = held } ≡ withBlock k R
+unfolding withBlock
+block-added k R {n} {held} e h p =
+    ap₂ (λ (i : ℕ) (l : List ℕ). record { limit = k .limit; count = k .count + 1; lengths = set (k .lengths) i (length R / 4); records = l }) e
+    (p ∙ copied-at (k .records) (n * 80) R h ∙ ap (λ (i : ℕ). written (k .records) (i * 80) R) e)
+
+-- what holds of a bank whose state is well formed
+pub bank-there : (k : Bank) (s : Scan) → formed k s ≡ true → BankHas k
+unfolding formed
+bank-there k s e = bank-has k (and-split (bankFormed k) (scanFormed k s) e .0)
+
+-- what holds of a well formed block
+pub record BlockHas (R bytes : List ℕ) : Type 0 where
+  pub size : length R ≤ 80
+  pub cells : cellCount R ≤ 20
+  pub counted : rowsCounted R ≡ rowCount R
+  pub few : rowsCounted R ≤ 32768
+  pub rows : length bytes ≡ rowsCounted R
+
+pub block-has : (R bytes : List ℕ) → wellFormed R bytes ≡ true → BlockHas R bytes
+unfolding wellFormed
+block-has R bytes e =
+    let a = and-split _ (every (cellCount R) (rowsFormed R bytes)) e in
+    let b = and-split (recordsFormed R) (eqb (length bytes) (rowCount R)) (a .0) in
+    let h = records-have R (b .0) in
+    let c = rows-counted R (formed-fit R (b .0)) in
+    record {
+      size = omega (arith, h .whole, h .few);
+      cells = omega (arith, cells-all R, cells-few R (recordCount R), h .few);
+      counted = sym c;
+      few = omega (arith, c, h .rows);
+      rows = eqb-true (length bytes) (rowCount R) (b .1) ∙ c;
+    }
+
+module _ (k : Bank) (s : Scan) (rows R bytes : List ℕ) where
+  abbrev held : State
+  held = stateOf k s rows
+
+  abbrev answer : ℕ → After State
+  answer n = record { answer = numbered n; state = cond (eqb n 0) (admitted held R bytes) held }
+
+  answered : (n : ℕ) → admitRefusal held R bytes ≡ n → answer n ≡ admit held R bytes
+  unfolding admit
+  answered n e = ap answer (sym e)
+
+  -- 12
+  pub admit-12-state : formed k s ≡ false → givenNumber 12 k s rows ≡ admit held R bytes
+  unfolding admitRefusal numbered
+  admit-12-state e = answered 12 (rw e refl)
+
+  pub admit-12-block : formed k s ≡ true → wellFormed R bytes ≡ false → givenNumber 12 k s rows ≡ admit held R bytes
+  unfolding admitRefusal numbered
+  admit-12-block e f = answered 12 (rw (e, f) refl)
+
+  module _ (f : formed k s ≡ true) (w : wellFormed R bytes ≡ true) {n : ℕ} (p : n ≡ k .count) where
+    -- 13
+    pub admit-13 : 8 ≤ n → givenNumber 13 k s rows ≡ admit held R bytes
+    unfolding admitRefusal numbered
+    admit-13 h = answered 13 (rw (f, w, le-leb 8 (k .count) (omega (arith, p, h))) refl)
+
+    module _ (h : n < 8) {c d : ℕ} (q : c ≡ cellsBefore k n) (g : d ≡ cellCount R) where
+      cells-are : c + d ≡ cellsHeld k + cellCount R
+      cells-are = ap₂ (λ (x y : ℕ). x + y) (q ∙ ap (cellsBefore k) p) g
+
+      -- 14
+      pub admit-14 : k .limit < c + d → givenNumber 14 k s rows ≡ admit held R bytes
+      unfolding admitRefusal numbered
+      admit-14 l =
+          answered 14
+          (rw (f, w, lt-leb 8 (k .count) (omega (arith, p, h)), lt-ltb (k .limit) (cellsHeld k + cellCount R) (omega (arith, cells-are, l))) refl)
+
+      module _ (l : c + d ≤ k .limit) {a r : ℕ} (u : a ≡ rowsBefore k n) (v : r ≡ rowsCounted R) where
+        rows-are : a + r ≡ rowsHeld k + rowCount R
+        rows-are = ap₂ (λ (x y : ℕ). x + y) (u ∙ ap (rowsBefore k) p) (v ∙ block-has R bytes w .counted)
+
+        abbrev short : ℕ → Bool
+        short m = ltb (length rows) m || ltb 32768 m
+
+        past-14 : admitRefusal held R bytes ≡ cond (short (a + r)) 11 0
+        unfolding admitRefusal
+        past-14 =
+            rw (f, w, lt-leb 8 (k .count) (omega (arith, p, h)), le-ltb (k .limit) (cellsHeld k + cellCount R) (omega (arith, cells-are, l)))
+            (ap (λ (m : ℕ). cond (short m) 11 0) (sym rows-are))
+
+        -- 11
+        pub admit-11 : short (a + r) ≡ true → givenNumber 11 k s rows ≡ admit held R bytes
+        unfolding numbered
+        admit-11 e = answered 11 (past-14 ∙ cond-yes (short (a + r)) 11 0 e)
+
+        module _ (e : short (a + r) ≡ false) where
+          pub rows-fit : a + length bytes ≤ length rows
+          rows-fit =
+              let o = or-split (ltb (length rows) (a + r)) (ltb 32768 (a + r)) e in
+              omega (arith, ltb-false (length rows) (a + r) (o .0), v, block-has R bytes w .rows)
+
+          -- none
+          pub admit-accepts : {k′ : Bank} {s′ : Scan} {rows′ : List ℕ} → k′ ≡ withBlock k R → s′ ≡ atRest
+              → rows′ ≡ putsAt a (length bytes) (λ i. getD bytes i 0) rows → givenNumber 0 k′ s′ rows′ ≡ admit held R bytes
+          unfolding numbered admitted
+          admit-accepts x y z =
+              let rest : _ = z ∙ copied-at rows a bytes rows-fit ∙ ap (λ (i : ℕ). written rows i bytes) (u ∙ ap (rowsBefore k) p) in
+              (λ i. givenNumber 0 (x i) (y i) (rest i)) ∙ answered 0 (past-14 ∙ cond-no (short (a + r)) 11 0 e)

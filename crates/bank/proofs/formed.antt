@@ -1,0 +1,2 @@
+-- Laws of `src/formed.rt`.
+pub mod HeldBlocks

@@ -1,0 +1,169 @@
+-- Laws of the blocks that a bank holds: their records, cells and rows, and the tests of a bank and a scan state put together from their parts.
+-- Assumes nothing.
+use mathlib.Core.Path.{_≡_, refl, sym, _∙_, ap, ap₂}
+use mathlib.Core.Bool.{Bool, true, false, _&&_}
+use mathlib.Core.List.{List}
+use Prim.Native.Nat.{ℕ, _+_, _-_, _*_, _^_, _≤_, _<_}
+use native.Mathlib.Omega.{arith}
+use lib.Dec.{leb, ltb}
+use lib.ListN.{getD, take, drop}
+use lib.Pow.{pow-mono}
+use borrow.Author.Tests.{leb-true, le-leb, lt-leb, lt-ltb, le-ltb}
+use Rattle.laws.specs.Tests.{every, within}
+use Rattle.laws.proofs.Cases.{and-split}
+use Rattle.laws.proofs.Tests.{every-at, within-yes, within-low, within-high, within-has}
+use Rattle.laws.proofs.Counts.{sum-next}
+use Rattle.stored_spec.specs.StoredForm.{recordsFormed, recordCount, cellCount, cellAt, rowCount}
+use Rattle.stored.specs.Reads.{rowsCounted, cellRails}
+use Rattle.stored.specs.declared.CellRails.{CellRails}
+use Rattle.stored_spec.proofs.StoredParts.{records-have}
+use Rattle.stored.proofs.CellReads.{cells-all, cells-few, formed-fit, rows-counted, rowsTold, rails-told, few-rails, some-rails}
+use Rattle.bank_spec.specs.declared.Bank.{Bank}
+use Rattle.bank_spec.specs.declared.Scan.{Scan}
+use Rattle.bank_spec.specs.State.{recordsOf, blockFormed, cellsBefore, rowsBefore, cellsHeld, rowsHeld, bankFormed, scanFormed}
+
+module _ (k : Bank) (b : ℕ) where
+  -- the part of the records that is lent
+  pub part-is : {n : ℕ} → n ≡ getD (k .lengths) b 0 → take (b * 80 + n * 4 - b * 80) (drop (b * 80) (k .records)) ≡ recordsOf k b
+  unfolding recordsOf
+  part-is {n} e =
+      let z : b * 80 + n * 4 - b * 80 ≡ getD (k .lengths) b 0 * 4 = omega arith in
+      ap (λ (i : ℕ). take i (drop (b * 80) (k .records))) z
+
+  -- the test of a block from its parts
+  pub too-few : {n : ℕ} → n ≡ getD (k .lengths) b 0 → n < 1 → false ≡ blockFormed k b
+  unfolding blockFormed
+  too-few e l = rw (within-low 1 20 (getD (k .lengths) b 0) (omega (arith, e, l))) refl
+
+  pub too-many : {n : ℕ} → n ≡ getD (k .lengths) b 0 → 20 < n → false ≡ blockFormed k b
+  unfolding blockFormed
+  too-many e l = rw (within-high 1 20 (getD (k .lengths) b 0) (omega (arith, e, l))) refl
+
+  pub in-number : {n : ℕ} → n ≡ getD (k .lengths) b 0 → 1 ≤ n → n ≤ 20 → recordsFormed (recordsOf k b) ≡ blockFormed k b
+  unfolding blockFormed
+  in-number e l m = rw (within-yes 1 20 (getD (k .lengths) b 0) (omega (arith, e, l)) (omega (arith, e, m))) refl
+
+  -- what a well formed block has
+  module _ (e : blockFormed k b ≡ true) where
+    block-parts : (within 1 20 (getD (k .lengths) b 0) ≡ true) × (recordsFormed (recordsOf k b) ≡ true)
+    unfolding blockFormed
+    block-parts = and-split (within 1 20 (getD (k .lengths) b 0)) (recordsFormed (recordsOf k b)) e
+
+    pub few-records : getD (k .lengths) b 0 ≤ 20
+    few-records = within-has 1 20 (getD (k .lengths) b 0) (block-parts .0) .1
+
+    pub records-well : recordsFormed (recordsOf k b) ≡ true
+    records-well = block-parts .1
+
+    pub cells-at-most : cellCount (recordsOf k b) ≤ 20
+    cells-at-most =
+        let R = recordsOf k b in
+        omega (arith, cells-all R, cells-few R (recordCount R), records-have R records-well .few)
+
+    pub rows-at-most : rowCount (recordsOf k b) ≤ 32768
+    rows-at-most = records-have (recordsOf k b) records-well .rows
+
+    pub rows-are : rowsCounted (recordsOf k b) ≡ rowCount (recordsOf k b)
+    rows-are = sym (rows-counted (recordsOf k b) (formed-fit (recordsOf k b) records-well))
+
+    module _ (cell : ℕ) (l : cell < cellCount (recordsOf k b)) where
+      told : rowsTold (recordsOf k b) cell ≡ true
+      told = ap₂ _&&_ (formed-fit (recordsOf k b) records-well) (lt-ltb cell (cellCount (recordsOf k b)) l)
+
+      pub rails-at-most : cellAt (recordsOf k b) cell .upper ≤ 12
+      rails-at-most = few-rails (recordsOf k b) cell told
+
+      -- the upper rails u that a call gives
+      module _ {n u : ℕ} {r : CellRails} (s : n ≡ getD (k .lengths) b 0)
+          (h : r ≡ cellRails (take (b * 80 + n * 4 - b * 80) (drop (b * 80) (k .records))) cell) (g : u ≡ r .upper) where
+        pub upper-is : u ≡ cellAt (recordsOf k b) cell .upper
+        upper-is =
+            g
+            ∙ ap (λ (c : CellRails). c .upper)
+            (h ∙ ap (λ (R : List ℕ). cellRails R cell) (part-is s) ∙ sym (some-rails (recordsOf k b) cell (rails-told (recordsOf k b) cell told)))
+
+        pub words-at-most : 2 ^ u ≤ 4096
+        words-at-most = pow-mono {j = 12} (omega (arith, upper-is, rails-at-most))
+
+-- one block more
+pub cells-next : (k : Bank) (b : ℕ) {n m : ℕ} → n ≡ cellsBefore k b → m ≡ cellCount (recordsOf k b) → n + m ≡ cellsBefore k (b + 1)
+unfolding cellsBefore
+cells-next k b p q = ap₂ (λ (x y : ℕ). x + y) p q ∙ sym (sum-next (λ i. cellCount (recordsOf k i)) b)
+
+pub rows-next : (k : Bank) (b : ℕ) {n m : ℕ} → n ≡ rowsBefore k b → m ≡ rowCount (recordsOf k b) → n + m ≡ rowsBefore k (b + 1)
+unfolding rowsBefore
+rows-next k b p q = ap₂ (λ (x y : ℕ). x + y) p q ∙ sym (sum-next (λ i. rowCount (recordsOf k i)) b)
+
+-- none
+pub no-cells : (k : Bank) → 0 ≡ cellsBefore k 0
+unfolding cellsBefore
+no-cells k = refl
+
+pub no-rows : (k : Bank) → 0 ≡ rowsBefore k 0
+unfolding rowsBefore
+no-rows k = refl
+
+module _ (k : Bank) where
+  -- the test of a bank from its parts
+  pub limit-low : k .limit < 1 → false ≡ bankFormed k
+  unfolding bankFormed
+  limit-low l = rw (within-low 1 255 (k .limit) l) refl
+
+  pub limit-high : 255 < k .limit → false ≡ bankFormed k
+  unfolding bankFormed
+  limit-high l = rw (within-high 1 255 (k .limit) l) refl
+
+  module _ (low : 1 ≤ k .limit) (high : k .limit ≤ 255) where
+    pub blocks-many : 8 < k .count → false ≡ bankFormed k
+    unfolding bankFormed
+    blocks-many l = rw (within-yes 1 255 (k .limit) low high, lt-leb (k .count) 8 l) refl
+
+    pub blocks-bad : k .count ≤ 8 → every (k .count) (blockFormed k) ≡ false → false ≡ bankFormed k
+    unfolding bankFormed
+    blocks-bad l e = rw (within-yes 1 255 (k .limit) low high, le-leb (k .count) 8 l, e) refl
+
+    pub blocks-good : k .count ≤ 8 → every (k .count) (blockFormed k) ≡ true → (leb (cellsHeld k) (k .limit) && leb (rowsHeld k) 32768) ≡ bankFormed k
+    unfolding bankFormed
+    blocks-good l e = rw (within-yes 1 255 (k .limit) low high, le-leb (k .count) 8 l, e) refl
+
+-- the parts of the test of a bank
+pub record BankHas (k : Bank) : Type 0 where
+  pub low : 1 ≤ k .limit
+  pub high : k .limit ≤ 255
+  pub few : k .count ≤ 8
+  pub blocks : (b : ℕ) → b < k .count → blockFormed k b ≡ true
+  pub cells : cellsHeld k ≤ k .limit
+  pub rows : rowsHeld k ≤ 32768
+
+pub bank-has : (k : Bank) → bankFormed k ≡ true → BankHas k
+unfolding bankFormed
+bank-has k e =
+    let d = and-split _ (leb (rowsHeld k) 32768) e in
+    let c = and-split _ (leb (cellsHeld k) (k .limit)) (d .0) in
+    let b = and-split _ (every (k .count) (blockFormed k)) (c .0) in
+    let a = and-split (within 1 255 (k .limit)) (leb (k .count) 8) (b .0) in
+    let w = within-has 1 255 (k .limit) (a .0) in
+    record {
+      low = w .0;
+      high = w .1;
+      few = leb-true (k .count) 8 (a .1);
+      blocks = every-at (blockFormed k) (k .count) (b .1);
+      cells = leb-true (cellsHeld k) (k .limit) (c .1);
+      rows = leb-true (rowsHeld k) 32768 (d .1);
+    }
+
+-- the test of a scan state from its parts
+module _ (k : Bank) (s : Scan) where
+  pub not-running : s .running ≡ false → true ≡ scanFormed k s
+  unfolding scanFormed
+  not-running e = rw e refl
+
+  pub no-block : s .running ≡ true → k .count ≤ s .block → false ≡ scanFormed k s
+  unfolding scanFormed
+  no-block e l = rw (e, le-ltb (s .block) (k .count) l) refl
+
+  pub in-block : {b c : ℕ} {t : Bool} → b ≡ s .block → c ≡ s .cell
+      → t ≡ (ltb c (cellCount (recordsOf k b)) && ltb (s .rail) (2 ^ cellAt (recordsOf k b) c .upper)) → s .running ≡ true → s .block < k .count
+      → t ≡ scanFormed k s
+  unfolding scanFormed
+  in-block p q h e l = rw (e, lt-ltb (s .block) (k .count) l, sym p, sym q) h

@@ -1,0 +1,2 @@
+-- Laws of `src/latching.rt`.
+pub mod LatchCases

@@ -1,0 +1,3 @@
+-- Laws of `src/stepping.rt`.
+pub mod NextRead
+pub mod StepCases

@@ -1,0 +1,7 @@
+-- Document 01's bank, its book and demand 3, in the order to read them.
+pub mod State
+pub mod Calls
+pub mod Book
+pub mod CallLists
+pub mod Demand3
+pub mod Opened

@@ -1,0 +1,2 @@
+-- Laws of `src/cells.rt`.
+pub mod RowsStored

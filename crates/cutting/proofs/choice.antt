@@ -1,0 +1,4 @@
+-- Laws of `src/choice.rt`.
+pub mod BestWays
+pub mod ChoiceSteps
+pub mod WaysGiveChosen

@@ -1,0 +1,2 @@
+-- Laws of `src/compiler.rt`.
+pub mod Assembled

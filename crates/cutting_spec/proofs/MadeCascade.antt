@@ -1,0 +1,63 @@
+-- What is made of an accepted job and sheet: the stored form is well formed, a run over it follows the reduced function, and after its last
+-- cell every output is set to a value that the sheet allows.
+-- Assumes nothing.
+use mathlib.Core.Path.{_≡_, refl, sym, _∙_}
+use mathlib.Core.Bool.{true, false}
+use mathlib.Core.List.{List, [], _∷_}
+use Prim.Native.Nat.{ℕ, _-_, _<_}
+use native.Mathlib.Omega.{arith}
+use lib.ListN.{length, getD}
+use Rattle.sheet_spec.specs.Job.{Job, t, inputList, numberOf}
+use Rattle.sheet_spec.specs.Values.{value, allows}
+use Rattle.sheet_spec.specs.Refusals.{sheetRefusal}
+use Rattle.sheet_spec.specs.Table.{table}
+use Rattle.reduction_spec.specs.Columns.{layers}
+use Rattle.reduction_spec.specs.Merge.{reduced}
+use Rattle.cutting_spec.specs.Cuts.{CutList, cellsOf}
+use Rattle.cutting_spec.specs.Choice.{refuse8}
+use Rattle.stored_spec.specs.StoredForm.{cellCount, wellFormed}
+use Rattle.stored_spec.specs.Run.{run}
+use Rattle.cutting_spec.specs.Compile.{widthsOf, made}
+use Rattle.cutting_spec.proofs.StoredCuts.{cell-count}
+use Rattle.cutting_spec.proofs.Emits.{Emitted, compiled-emits, compiled-all}
+use Rattle.cutting_spec.proofs.StoredWell.{compiled-formed}
+use Rattle.cutting_spec.proofs.ChosenCuts.{chosen-cuts, chosen-admissible}
+
+pub cells-count : (j : Job) (ws l : List ℕ) → length (cellsOf j ws l) ≡ length l - 1
+unfolding cellsOf
+cells-count j ws [] = refl
+cells-count j ws (a ∷ []) = refl
+cells-count j ws (a ∷ b ∷ l) = let e = cells-count j ws (b ∷ l) in omega arith
+
+module _ (j : Job) (s : List ℕ) (e : sheetRefusal j s ≡ 0) (kept : refuse8 j (made j (table j s) .widths) ≡ false) where
+  pub made-cuts : CutList (t j) (made j (table j s) .cuts)
+  unfolding made
+  made-cuts = chosen-cuts j (made j (table j s) .widths) kept
+
+  pub made-count : cellCount (made j (table j s) .records) ≡ made j (table j s) .cells
+  unfolding made
+  made-count =
+      let l = made j (table j s) .cuts in
+      let ws = widthsOf (layers j (reduced j (table j s))) in
+      cell-count j ws l made-cuts ∙ sym (cells-count j ws l)
+
+  pub made-formed : wellFormed (made j (table j s) .records) (made j (table j s) .rows) ≡ true
+  unfolding made
+  made-formed = compiled-formed j s e (made j (table j s) .cuts) made-cuts (chosen-admissible j (made j (table j s) .widths) kept)
+
+  module _ (w : ℕ) where
+    -- after k cells
+    pub made-emits : (k : ℕ) → k < length (made j (table j s) .cuts)
+        → Emitted j (reduced j (table j s)) (numberOf (inputList j) w) (getD (made j (table j s) .cuts) k 0)
+        (run (made j (table j s) .records) (made j (table j s) .rows) w k)
+    unfolding made
+    made-emits = compiled-emits j s e (made j (table j s) .cuts) made-cuts w
+
+    -- after all cells
+    pub made-all : (o : ℕ) → o < j .m
+        → (getD (run (made j (table j s) .records) (made j (table j s) .rows) w (made j (table j s) .cells) .outputs) o 2 < 2)
+        × (allows (value s w o) (getD (run (made j (table j s) .records) (made j (table j s) .rows) w (made j (table j s) .cells) .outputs) o 2) ≡ true)
+    unfolding made
+    made-all o h =
+        let l = made j (table j s) .cuts in
+        rw (cells-count j (widthsOf (layers j (reduced j (table j s)))) l) (compiled-all j s e l made-cuts w o h)

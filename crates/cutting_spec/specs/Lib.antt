@@ -1,0 +1,8 @@
+-- Document 01's cuts, rows and compiler, in the order to read them.
+pub mod Cuts
+pub mod Choice
+pub mod Rows
+pub mod Compile
+pub mod Listing
+pub mod Example
+pub mod Opened

@@ -1,0 +1,2 @@
+-- Laws of `src/nodes.rt`.
+pub mod LentAgain

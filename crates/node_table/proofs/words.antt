@@ -1,0 +1,2 @@
+-- Laws of `src/words.rt`.
+pub mod LentWords

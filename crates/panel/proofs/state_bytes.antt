@@ -1,0 +1,2 @@
+-- Laws of `src/state_bytes.rt`.
+pub mod StateLaws

@@ -1,0 +1,5 @@
+-- Laws of `src/cover.rt`.
+pub mod KeySteps
+pub mod KeysGiveCover
+pub mod LeastKey
+pub mod RunningCounts

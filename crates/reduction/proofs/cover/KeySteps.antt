@@ -1,0 +1,75 @@
+-- The rounds over keys, one step at a time, as the loops take them.
+-- Assumes nothing.
+use mathlib.Core.Path.{_≡_, refl, sym, _∙_, ap, ap₂}
+use mathlib.Core.List.{List}
+use Prim.Native.Nat.{ℕ, zero, suc, _+_, _-_, _%_, _<_, _≤_}
+use native.Mathlib.Omega.{arith}
+use borrow.Author.Tests.{eq-eqb, ne-eqb, lt-ltb, le-ltb}
+use lib.Dec.{eqb, ltb}
+use lib.ListN.{getD, set, replicate}
+use Rattle.laws.specs.Lists.{puts}
+use Rattle.laws.proofs.Cases.{cond-yes, cond-no}
+use Rattle.reduction.specs.RunningKeys.{gone, leastKey, lesser, Growth, Stand, joining, growing, alone, opened, turn, turns}
+
+-- two lists of keys that agree below n
+pub least-ext : (a b : List ℕ) (n : ℕ) → ((i : ℕ) → i < n → getD a i 0 ≡ getD b i 0) → leastKey a n ≡ leastKey b n
+unfolding leastKey
+least-ext a b zero h = refl
+least-ext a b (suc n) h = ap₂ lesser (h n (omega arith)) (least-ext a b n (λ i p. h i (omega arith)))
+
+pub same-growth : {k k′ c c′ o o′ : List ℕ} → k ≡ k′ → c ≡ c′ → o ≡ o′
+    → _≡_ {A = Growth} (record { keys = k; cand = c; owner = o }) (record { keys = k′; cand = c′; owner = o′ })
+same-growth p q r = rw (p, q, r)
+
+pub same-stand : {k k′ o o′ : List ℕ} → k ≡ k′ → o ≡ o′ → _≡_ {A = Stand} (record { keys = k; owner = o }) (record { keys = k′; owner = o′ })
+same-stand p q = rw (p, q)
+
+module _ (w : ℕ) (graph : List ℕ) (g : ℕ) where
+  -- no candidate; one that joins
+  pub growing-stop : (n i k : ℕ) (s : Growth) → i < n → k ≡ leastKey (s .cand) w → k ≡ gone → growing w graph g (n - i) s ≡ s
+  unfolding growing
+  growing-stop n i k s h e p =
+      let m : n - i ≡ suc (n - (i + 1)) = omega arith in
+      ap (λ (x : ℕ). growing w graph g x s) m ∙ cond-yes (eqb (leastKey (s .cand) w) gone) _ _ (eq-eqb (leastKey (s .cand) w) gone (sym e ∙ p))
+
+  pub growing-more : (n i k : ℕ) (s : Growth) → i < n → k ≡ leastKey (s .cand) w → (k ≡ gone → ⊥)
+      → growing w graph g (n - i) s ≡ growing w graph g (n - (i + 1)) (joining w graph g (k % 512) s)
+  unfolding growing
+  growing-more n i k s h e p =
+      let m : n - i ≡ suc (n - (i + 1)) = omega arith in
+      ap (λ (x : ℕ). growing w graph g x s) m ∙ cond-no (eqb (leastKey (s .cand) w) gone) _ _ (ne-eqb (leastKey (s .cand) w) gone (λ q. p (e ∙ q)))
+      ∙ ap (λ (x : ℕ). growing w graph g (n - (i + 1)) (joining w graph g (x % 512) s)) (sym e)
+
+module _ (w : ℕ) (graph : List ℕ) where
+  -- the round of a column without edges; of one with edges
+  pub turn-alone : (g k u : ℕ) (s : Stand) → k < 512 → u ≡ k % 512
+      → _≡_ {A = Stand} (record { keys = set (s .keys) u gone; owner = set (s .owner) u g }) (turn w graph g k s)
+  unfolding turn alone
+  turn-alone g k u s h e =
+      ap (λ (x : ℕ). record { keys = set (s .keys) x gone; owner = set (s .owner) x g }) e
+      ∙ sym (cond-yes (ltb k 512) (alone w graph g k s) (opened w graph g s) (lt-ltb k 512 h))
+
+  pub turn-opened : (g k : ℕ) (s : Stand) (cand : List ℕ) (r : Growth) → 512 ≤ k → cand ≡ puts w (λ c. getD (s .keys) c 0) (replicate 512 0)
+      → r ≡ growing w graph g (suc w) (record { keys = s .keys; cand = cand; owner = s .owner })
+      → _≡_ {A = Stand} (record { keys = r .keys; owner = r .owner }) (turn w graph g k s)
+  unfolding turn opened
+  turn-opened g k s cand r h p q =
+      let e : r ≡ growing w graph g (suc w) (record { keys = s .keys; cand = puts w (λ c. getD (s .keys) c 0) (replicate 512 0); owner = s .owner }) =
+      q ∙ ap (λ (x : List ℕ). growing w graph g (suc w) (record { keys = s .keys; cand = x; owner = s .owner })) p in
+      ap (λ (x : Growth). record { keys = x .keys; owner = x .owner }) e
+      ∙ sym (cond-no (ltb k 512) (alone w graph g k s) (opened w graph g s) (le-ltb k 512 h))
+
+  -- no column left; a round
+  pub turns-stop : (n g k : ℕ) (s : Stand) → g < n → k ≡ leastKey (s .keys) w → k ≡ gone → turns w graph (n - g) g s ≡ s
+  unfolding turns
+  turns-stop n g k s h e p =
+      let m : n - g ≡ suc (n - (g + 1)) = omega arith in
+      ap (λ (x : ℕ). turns w graph x g s) m ∙ cond-yes (eqb (leastKey (s .keys) w) gone) _ _ (eq-eqb (leastKey (s .keys) w) gone (sym e ∙ p))
+
+  pub turns-more : (n g k : ℕ) (s : Stand) → g < n → k ≡ leastKey (s .keys) w → (k ≡ gone → ⊥)
+      → turns w graph (n - g) g s ≡ turns w graph (n - (g + 1)) (g + 1) (turn w graph g k s)
+  unfolding turns
+  turns-more n g k s h e p =
+      let m : n - g ≡ suc (n - (g + 1)) = omega arith in
+      ap (λ (x : ℕ). turns w graph x g s) m ∙ cond-no (eqb (leastKey (s .keys) w) gone) _ _ (ne-eqb (leastKey (s .keys) w) gone (λ q. p (e ∙ q)))
+      ∙ ap (λ (x : ℕ). turns w graph (n - (g + 1)) (g + 1) (turn w graph g x s)) (sym e)

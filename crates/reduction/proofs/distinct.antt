@@ -1,0 +1,3 @@
+-- Laws of `src/distinct.rt`.
+pub mod ColumnHashes
+pub mod NumberedSoFar

@@ -1,0 +1,3 @@
+-- Laws of `src/links.rt`.
+pub mod FirstBytes
+pub mod LinkRows

@@ -1,0 +1,2 @@
+-- Laws of `src/merging.rt`.
+pub mod CliqueNumbers

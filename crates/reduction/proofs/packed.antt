@@ -1,0 +1,4 @@
+-- Laws of `src/packed.rt`.
+pub mod Planes
+pub mod PlanesHalved
+pub mod PlanesMade

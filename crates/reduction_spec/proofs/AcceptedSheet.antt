@@ -1,0 +1,81 @@
+-- The final table of an accepted sheet: it keeps every value that the sheet forces, no line depends on the inputs below its output, and
+-- its diagram has at most 10,240 nodes.
+-- Assumes nothing.
+use mathlib.Core.Path.{_≡_, sym, _∙_, ap}
+use mathlib.Core.Bool.{false}
+use mathlib.Core.List.{List, []}
+use Prim.Native.Nat.{ℕ, zero, suc, _+_, _-_, _*_, _/_, _^_, _<_, _≤_}
+use native.Mathlib.Nat.{div-mul-le-self, suc-mul}
+use native.Mathlib.Omega.{arith}
+use lib.ListN.{length, getD, length-append}
+use Rattle.laws.specs.Lists.{tab}
+use Rattle.laws.proofs.Cases.{last-or-below}
+use Rattle.laws.proofs.Lists.{length-tab, getD-tab}
+use Rattle.sheet_spec.specs.Job.{Job, t}
+use Rattle.sheet_spec.specs.Refusals.{sheetRefusal}
+use Rattle.sheet_spec.specs.Table.{tableAt, table}
+use Rattle.sheet_spec.specs.Accepted.{Accepted}
+use Rattle.sheet_spec.proofs.Tables.{table-entry}
+use Rattle.sheet_spec.proofs.LeastRefusal.{job-accepted}
+use Rattle.sheet_spec.proofs.LinesSettled.{insBelow, table-ruled}
+use Rattle.reduction_spec.specs.Merge.{reduced, refuse7}
+use Rattle.reduction_spec.specs.Columns.{firstsAt, width, layers, widthIn}
+use Rattle.reduction_spec.specs.Diagram.{nodeAt, nodesTo, nodes}
+use Rattle.reduction_spec.proofs.MergeKeepsOrderRule.{Ruled}
+use Rattle.reduction_spec.proofs.AllMerges.{merged-ruled, reduced-keeps, width-top, width-fits}
+
+module _ (j : Job) (s : List ℕ) (e : sheetRefusal j s ≡ 0) where
+  read : Accepted (j .n) (j .m) (j .order) s
+  read = job-accepted j s e
+
+  -- what the sheet forces stays
+  pub reduced-refines : (k x v : ℕ) → k < j .m → x < 2 ^ j .n → v < 2 → tableAt (j .n) (j .m) (j .order) s k x ≡ v
+      → getD (reduced j (table j s)) (k * 2 ^ j .n + x) 0 ≡ v
+  reduced-refines k x v hk hx hv is =
+      reduced-keeps j (read .order-whole) (read .inputs) (read .outputs) (table j s) k x v hk hx hv (table-entry j s k x hk hx ∙ is)
+
+  pub sheet-ruled : Ruled (j .n) (j .m) (insBelow (t j) (j .order)) (table j s)
+  sheet-ruled k x hk hx =
+      let b = insBelow (t j) (j .order) k in
+      table-entry j s k x hk hx ∙ table-ruled j s e k x hk hx
+      ∙ sym (table-entry j s k (x / 2 ^ b * 2 ^ b) hk (omega (arith, div-mul-le-self x (2 ^ b))))
+
+  pub reduced-ruled : Ruled (j .n) (j .m) (insBelow (t j) (j .order)) (reduced j (table j s))
+  unfolding reduced
+  reduced-ruled =
+      merged-ruled j (read .order-whole) (read .inputs) (read .outputs) (table j s) sheet-ruled (t j - 1)
+
+-- the widths as the layers hold them
+pub width-layer : (j : Job) (f : List ℕ) (h : ℕ) → h ≤ t j → widthIn (layers j f) h ≡ width j f h
+unfolding layers width
+width-layer j f h l = ap (λ (ps : List ℕ). length ps) (getD-tab (firstsAt j f) [] (suc (t j)) h (omega arith))
+
+-- nodes at heights h to 1 with widths of at most w
+nodes-few : (j : Job) (f : List ℕ) (ls : List (List ℕ)) (w h : ℕ) → ((g : ℕ) → g < h → widthIn ls (suc g) ≤ w) → length (nodesTo j f ls h) ≤ h * w
+unfolding nodesTo
+nodes-few j f ls w zero l = omega arith
+nodes-few j f ls w (suc h) l =
+    let few = nodes-few j f ls w h (λ g k. l g (omega arith)) in
+    let e = length-append (tab (widthIn ls (suc h)) (nodeAt j f ls h)) (nodesTo j f ls h) in
+    let s = length-tab (nodeAt j f ls h) (widthIn ls (suc h)) in
+    omega (arith, e, s, few, l h (omega arith), suc-mul h w)
+
+pub nodes-fit : (j : Job) (s : List ℕ) → sheetRefusal j s ≡ 0 → refuse7 j (table j s) ≡ false
+    → length (nodes j (reduced j (table j s)) (layers j (reduced j (table j s)))) ≤ 10240
+unfolding nodes
+nodes-fit j s e narrow =
+    let r = read j s e in
+    let f = reduced j (table j s) in
+    let fits : (g : ℕ) → g < t j → widthIn (layers j f) (suc g) ≤ 512 =
+    λ g l.
+    last-or-below g (t j - 1) (omega arith)
+    (λ is.
+    let top : suc g ≡ t j = omega arith in
+    omega (arith, width-layer j f (suc g) (omega arith), ap (width j f) top, width-top j (r .order-whole) (r .inputs) (r .outputs) f))
+    (λ k.
+    omega (
+      arith,
+      width-layer j f (suc g) (omega arith),
+      width-fits j (r .order-whole) (r .inputs) (r .outputs) (table j s) narrow (suc g) (omega arith) (omega arith),
+    )) in
+    omega (arith, nodes-few j f (layers j f) 512 (t j) fits, r .inputs, r .outputs)

@@ -1,0 +1,2 @@
+-- Laws of `src/planes.rt`.
+pub mod PlaceBlocks

@@ -1,0 +1,2 @@
+-- Laws of `src/records.rt`.
+pub mod RecordTests

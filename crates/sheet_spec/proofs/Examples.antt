@@ -1,0 +1,54 @@
+-- Computed examples: the table of T, which is table 1 of document 000, and its words.
+-- Assumes nothing.
+use mathlib.Core.Path.{_≡_, refl}
+use mathlib.Core.Bool.{true, false}
+use mathlib.Core.List.{List, [], _∷_, _++_}
+use Prim.Native.Nat.{ℕ}
+use Rattle.sheet_spec.specs.Opened.{sheetOpened}
+use Rattle.sheet_spec.specs.Job.{inputList, wordOf, numberOf}
+use Rattle.sheet_spec.specs.Refusals.{sheetRefusal}
+use Rattle.sheet_spec.specs.Table.{table}
+use Rattle.sheet_spec.specs.Characteristic.{chi}
+use Rattle.sheet_spec.specs.Example.{T, fullT, jobT, jobF, clashing}
+
+-- the lines of y2 and of y1, as the truth table prints them down its rows
+abbrev y2 : List ℕ
+y2 = 1 ∷ 1 ∷ 0 ∷ 0 ∷ 2 ∷ 2 ∷ 0 ∷ 1 ∷ 1 ∷ 1 ∷ 0 ∷ 0 ∷ 2 ∷ 2 ∷ 0 ∷ 1 ∷ []
+
+abbrev y1 : List ℕ
+y1 = 2 ∷ 2 ∷ 0 ∷ 0 ∷ 2 ∷ 2 ∷ 1 ∷ 1 ∷ 0 ∷ 0 ∷ 1 ∷ 1 ∷ 1 ∷ 1 ∷ 2 ∷ 2 ∷ []
+
+pub T-accepted : sheetRefusal (jobT 3 2) T ≡ 0
+unfolding sheetOpened
+T-accepted = refl
+
+pub T-table : table (jobT 3 2) T ≡ y2 ++ y1
+unfolding sheetOpened
+T-table = refl
+
+-- as sixteen full-mask records it is the same function, and y1 stands above x4, which is named for it
+pub full-table : table (jobT 3 2) fullT ≡ y2 ++ y1
+unfolding sheetOpened
+full-table = refl
+
+pub full-refused : sheetRefusal (jobT 3 2) fullT ≡ 6
+unfolding sheetOpened
+full-refused = refl
+
+pub clashing-refused : sheetRefusal jobF clashing ≡ 5
+unfolding sheetOpened
+clashing-refused = refl
+
+-- row 0011 of the truth table is the word with inputs 2 and 3
+pub word-0011 : wordOf (inputList (jobT 3 2)) 3 ≡ 12
+unfolding sheetOpened
+word-0011 = refl
+
+pub number-0011 : numberOf (inputList (jobT 3 2)) 12 ≡ 3
+unfolding sheetOpened
+number-0011 = refl
+
+-- there both outputs are 0: the outputs 00 satisfy the characteristic function, 01 do not
+pub chi-0011 : (chi 2 T 12 0 ≡ true) × (chi 2 T 12 1 ≡ false)
+unfolding sheetOpened
+chi-0011 = (refl, refl)

@@ -1,0 +1,2 @@
+-- Laws of `src/read_write.rt`.
+pub mod RecordArrays

@@ -1,0 +1,2 @@
+-- Laws of `src/reads.rt`.
+pub mod RowBits

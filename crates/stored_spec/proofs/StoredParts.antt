@@ -1,0 +1,73 @@
+-- What well formed records have, and the test of records and rows put together from its parts.
+-- Assumes nothing.
+use mathlib.Core.Path.{_≡_, refl}
+use mathlib.Core.Bool.{Bool, true, false, _&&_}
+use mathlib.Core.List.{List}
+use Prim.Native.Nat.{ℕ, _-_, _*_, _≤_, _<_}
+use lib.Dec.{eqb, leb}
+use lib.ListN.{length}
+use borrow.Author.Tests.{eqb-true, leb-true}
+use Rattle.laws.specs.Tests.{every, within}
+use Rattle.laws.proofs.Cases.{and-split}
+use Rattle.laws.proofs.Tests.{every-at}
+use Rattle.stored_spec.specs.StoredForm.{recordCount, cutByte, railByte, recordFormed, cellCount, cellFormed, rowCount, recordsFormed}
+
+-- whole records, 1 to 20 of them
+pub shape-has : (R : List ℕ) → (eqb (length R) (recordCount R * 4) && within 1 20 (recordCount R)) ≡ true
+    → (length R ≡ recordCount R * 4) × (1 ≤ recordCount R) × (recordCount R ≤ 20)
+shape-has R e =
+    let a = and-split (eqb (length R) (recordCount R * 4)) (within 1 20 (recordCount R)) e in
+    let b = and-split (leb 1 (recordCount R)) (leb (recordCount R) 20) (a .1) in
+    (eqb-true (length R) (recordCount R * 4) (a .0), leb-true 1 (recordCount R) (b .0), leb-true (recordCount R) 20 (b .1))
+
+-- the parts of the test of records
+pub record RecordsHave (R : List ℕ) : Type 0 where
+  pub whole : length R ≡ recordCount R * 4
+  pub some : 1 ≤ recordCount R
+  pub few : recordCount R ≤ 20
+  pub each : (i : ℕ) → i < recordCount R → recordFormed R i ≡ true
+  pub last : cutByte R (recordCount R - 1) ≡ 1
+  pub ends : railByte R (recordCount R - 1) ≡ 0
+  pub cells : every (cellCount R) (cellFormed R) ≡ true
+  pub rows : rowCount R ≤ 32768
+
+pub records-have : (R : List ℕ) → recordsFormed R ≡ true → RecordsHave R
+unfolding recordsFormed
+records-have R e =
+    let g = and-split _ (leb (rowCount R) 32768) e in
+    let f = and-split _ (every (cellCount R) (cellFormed R)) (g .0) in
+    let d = and-split _ (eqb (railByte R (recordCount R - 1)) 0) (f .0) in
+    let c = and-split _ (eqb (cutByte R (recordCount R - 1)) 1) (d .0) in
+    let b = and-split _ (every (recordCount R) (recordFormed R)) (c .0) in
+    let s = shape-has R (b .0) in
+    record {
+      whole = s .0;
+      some = s .1;
+      few = s .2;
+      each = every-at (recordFormed R) (recordCount R) (b .1);
+      last = eqb-true (cutByte R (recordCount R - 1)) 1 (c .1);
+      ends = eqb-true (railByte R (recordCount R - 1)) 0 (d .1);
+      cells = f .1;
+      rows = leb-true (rowCount R) 32768 (g .1);
+    }
+
+-- five tests, of which the fourth is made first
+module _ (a b c d e : Bool) where
+  pub fourth-holds : d ≡ true → ((a && (b && c)) && e) ≡ (a && b && c && d && e)
+  fourth-holds p = rw p (by a b)
+    where
+      by : (a b : Bool) → ((a && (b && c)) && e) ≡ (a && b && c && true && e)
+      by true true = of c
+        where
+          of : (c : Bool) → (c && e) ≡ (c && true && e)
+          of true = refl
+          of false = refl
+      by true false = refl
+      by false b = refl
+
+  pub fourth-fails : d ≡ false → false ≡ (a && b && c && d && e)
+  fourth-fails p = rw p (of (a && b && c))
+    where
+      of : (t : Bool) → false ≡ (t && false && e)
+      of true = refl
+      of false = refl
