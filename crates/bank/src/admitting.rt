@@ -12,9 +12,15 @@ use crate::Started;
 use crate::formed::cells_before;
 use crate::formed::rows_before;
 use crate::formed::state_formed;
-use crate::formed::wide;
+use bank_spec::BANK_OUTPUTS;
+use bank_spec::BANK_RECORD_BYTES;
 use bank_spec::Bank;
+use bank_spec::MOST_BLOCKS;
+use bank_spec::MOST_SCAN;
 use bank_spec::Scan;
+use numbers::wide;
+use stored_spec::MOST_RECORD_BYTES;
+use stored_spec::MOST_ROWS;
 
 fn empty_bank(limit: u16) -> Bank
     ensures { λ r. ⌜ r ≡ emptyBank limit ⌝ }
@@ -22,8 +28,8 @@ fn empty_bank(limit: u16) -> Bank
     Bank {
         limit,
         count: 0,
-        lengths: [0u8; 8],
-        records: [0u8; 640],
+        lengths: [0u8; MOST_BLOCKS],
+        records: [0u8; BANK_RECORD_BYTES],
     }
 }
 
@@ -36,8 +42,8 @@ pub fn at_rest() -> Scan
         block: 0,
         cell: 0,
         rail: 0,
-        words: [0u16; 8],
-        outputs: [2u8; 64],
+        words: [0u16; MOST_BLOCKS],
+        outputs: [2u8; BANK_OUTPUTS],
     }
 }
 
@@ -51,7 +57,7 @@ pub fn start(limit: u16) -> Started
             scan: at_rest(),
         };
     }
-    if 255 < limit {
+    if MOST_SCAN < limit {
         return Started {
             refusal: 1,
             bank: empty_bank(0),
@@ -86,7 +92,7 @@ fn with_block(bank: Bank, records: &[u8]) -> Bank
     let mut lengths = bank.lengths;
     lengths[count] = (records.len() / 4) as u8;
     let mut held = bank.records;
-    copy_at(records, count * 80, &mut held);
+    copy_at(records, count * MOST_RECORD_BYTES, &mut held);
     Bank {
         limit: bank.limit,
         count: bank.count + 1,
@@ -121,7 +127,7 @@ pub fn admit_block(
         };
     }
     let count = wide(bank.count);
-    if 8 <= count {
+    if MOST_BLOCKS <= count {
         return Admitted {
             refusal: 13,
             bank,
@@ -138,7 +144,7 @@ pub fn admit_block(
     }
     let at = rows_before(bank, count);
     let total = at + stored::row_count(records);
-    if (rows.len() < total) | (32768 < total) {
+    if (rows.len() < total) | (MOST_ROWS < total) {
         return Admitted {
             refusal: 11,
             bank,

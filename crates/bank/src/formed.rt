@@ -7,13 +7,13 @@ ghost use Rattle.laws.specs.Tests.{every};
 ghost use Rattle.stored_spec.specs.StoredForm.{cellCount, cellAt, rowCount};
 ghost use Rattle.bank_spec.specs.State.{recordsOf, blockFormed, cellsBefore, rowsBefore, bankFormed, scanFormed, formed};
 use bank_spec::Bank;
+use bank_spec::MOST_BLOCKS;
+use bank_spec::MOST_SCAN;
 use bank_spec::Scan;
-
-pub fn wide(x: u8) -> usize
-    ensures { λ r. ⌜ (r ≡ x) × (r < 256) ⌝ }
-{
-    x as usize
-}
+use numbers::wide;
+use sheet_spec::MOST_VARIABLES;
+use stored_spec::MOST_RECORD_BYTES;
+use stored_spec::MOST_ROWS;
 
 // The block at place b has 1 to 20 records, and they are well formed.
 fn block_formed(bank: Bank, b: usize) -> bool
@@ -25,11 +25,11 @@ fn block_formed(bank: Bank, b: usize) -> bool
     if n < 1 {
         return false;
     }
-    if 20 < n {
+    if MOST_VARIABLES < n {
         return false;
     }
     let records = bank.records;
-    stored::records_formed(&records[b * 80..b * 80 + n * 4])
+    stored::records_formed(&records[b * MOST_RECORD_BYTES..b * MOST_RECORD_BYTES + n * 4])
 }
 
 fn blocks_formed(bank: Bank, count: usize) -> bool
@@ -53,7 +53,7 @@ fn block_cells(bank: Bank, b: usize) -> usize
     let lengths = bank.lengths;
     let n = wide(lengths[b]);
     let records = bank.records;
-    stored::cell_count(&records[b * 80..b * 80 + n * 4])
+    stored::cell_count(&records[b * MOST_RECORD_BYTES..b * MOST_RECORD_BYTES + n * 4])
 }
 
 fn block_rows(bank: Bank, b: usize) -> usize
@@ -63,7 +63,7 @@ fn block_rows(bank: Bank, b: usize) -> usize
     let lengths = bank.lengths;
     let n = wide(lengths[b]);
     let records = bank.records;
-    stored::row_count(&records[b * 80..b * 80 + n * 4])
+    stored::row_count(&records[b * MOST_RECORD_BYTES..b * MOST_RECORD_BYTES + n * 4])
 }
 
 // The cells, and the rows, of the blocks before place n.
@@ -101,16 +101,16 @@ fn bank_formed(bank: Bank) -> bool
     if limit < 1 {
         return false;
     }
-    if 255 < limit {
+    if MOST_SCAN < limit {
         return false;
     }
-    if 8 < count {
+    if MOST_BLOCKS < count {
         return false;
     }
     if blocks_formed(bank, count) {
         let cells = cells_before(bank, count);
         let rows = rows_before(bank, count);
-        return (cells <= limit as usize) & (rows <= 32768);
+        return (cells <= limit as usize) & (rows <= MOST_ROWS);
     }
     false
 }
@@ -123,7 +123,10 @@ fn rail_words(bank: Bank, b: usize, cell: usize) -> usize
     let lengths = bank.lengths;
     let n = wide(lengths[b]);
     let records = bank.records;
-    let rails = stored::cell_rails(&records[b * 80..b * 80 + n * 4], cell);
+    let rails = stored::cell_rails(
+        &records[b * MOST_RECORD_BYTES..b * MOST_RECORD_BYTES + n * 4],
+        cell,
+    );
     let upper = wide(rails.upper);
     1 << upper
 }

@@ -13,6 +13,7 @@ ghost use Rattle.bank_spec.specs.Calls.{admit, latch, step};
 ghost use Rattle.bank_spec.specs.State.{stateOf};
 ghost use Rattle.bank.specs.Given.{givenNumber, givenAnswer, started};
 use bank_spec::Bank;
+use bank_spec::MOST_BLOCKS;
 use bank_spec::Scan;
 use bank_spec::StepAnswer;
 
@@ -67,14 +68,14 @@ pub fn admit(bank: Bank, scan: Scan, records: &[u8], bytes: &[u8], rows: &mut [u
 }
 
 // Latches eight words, clears all set outputs and starts a scan; or 12 and nothing changes. The row memory takes no part.
-pub fn latch(bank: Bank, scan: Scan, words: [u16; 8]) -> Latched
+pub fn latch(bank: Bank, scan: Scan, words: [u16; MOST_BLOCKS]) -> Latched
     ensures { λ r. ⌜ ((rows : List ℕ) → givenNumber (r .refusal) bank (r .scan) rows ≡ latch (stateOf bank scan rows) words) ⌝ }
 {
     latching::latch_words(bank, scan, words)
 }
 
 // The same on a scan state that is lent.
-pub fn latch_lent(bank: Bank, scan: &mut Scan, words: [u16; 8]) -> u8
+pub fn latch_lent(bank: Bank, scan: &mut Scan, words: [u16; MOST_BLOCKS]) -> u8
     ensures { λ r.
         ⌜ ((rows : List ℕ) → givenNumber r bank (now (scan .exit)) rows
         ≡ latch (stateOf bank (now (scan .entry)) rows) words) ⌝ }

@@ -14,10 +14,13 @@ ghost use Rattle.bank.specs.Given.{givenAnswer};
 use crate::Stepped;
 use crate::formed::rows_before;
 use crate::formed::state_formed;
-use crate::formed::wide;
+use bank_spec::BANK_OUTPUTS;
 use bank_spec::Bank;
 use bank_spec::Scan;
 use bank_spec::StepAnswer;
+use numbers::wide;
+use sheet_spec::MOST_OUTPUTS;
+use stored_spec::MOST_RECORD_BYTES;
 
 // The row that the next cell reads.
 fn next_row(bank: Bank, scan: Scan, rows: &[u8]) -> u8
@@ -30,7 +33,7 @@ fn next_row(bank: Bank, scan: Scan, rows: &[u8]) -> u8
     let records = bank.records;
     let words = scan.words;
     let place = stored::row_read(
-        &records[b * 80..b * 80 + n * 4],
+        &records[b * MOST_RECORD_BYTES..b * MOST_RECORD_BYTES + n * 4],
         wide(scan.cell),
         scan.rail,
         words[b],
@@ -47,7 +50,7 @@ fn more_cells(bank: Bank, scan: Scan) -> bool
     let lengths = bank.lengths;
     let n = wide(lengths[b]);
     let records = bank.records;
-    let cells = stored::cell_count(&records[b * 80..b * 80 + n * 4]);
+    let cells = stored::cell_count(&records[b * MOST_RECORD_BYTES..b * MOST_RECORD_BYTES + n * 4]);
     wide(scan.cell) + 1 < cells
 }
 
@@ -68,12 +71,15 @@ fn rail_after(bank: Bank, scan: Scan, x: u8) -> u16
     let lengths = bank.lengths;
     let n = wide(lengths[b]);
     let records = bank.records;
-    let rails = stored::cell_rails(&records[b * 80..b * 80 + n * 4], wide(scan.cell));
+    let rails = stored::cell_rails(
+        &records[b * MOST_RECORD_BYTES..b * MOST_RECORD_BYTES + n * 4],
+        wide(scan.cell),
+    );
     lowest(x, rails.lower)
 }
 
 // All outputs after the row x is read.
-fn outputs_after(bank: Bank, scan: Scan, x: u8) -> [u8; 64]
+fn outputs_after(bank: Bank, scan: Scan, x: u8) -> [u8; BANK_OUTPUTS]
     requires { ⌜ (formed bank scan ≡ true) × (scan .running ≡ true) ⌝ }
     ensures { λ r.
         ⌜ r
@@ -86,10 +92,10 @@ fn outputs_after(bank: Bank, scan: Scan, x: u8) -> [u8; 64]
     let records = bank.records;
     let mut outputs = scan.outputs;
     stored::set_outputs(
-        &records[b * 80..b * 80 + n * 4],
+        &records[b * MOST_RECORD_BYTES..b * MOST_RECORD_BYTES + n * 4],
         wide(scan.cell),
         x,
-        &mut outputs[b * 8..b * 8 + 8],
+        &mut outputs[b * MOST_OUTPUTS..b * MOST_OUTPUTS + MOST_OUTPUTS],
     );
     outputs
 }

@@ -4,6 +4,9 @@ ghost use mathlib.Core.Path.{_≡_};
 ghost use Prim.Native.Nat.{_≤_};
 ghost use lib.ListN.{length};
 use libc::STDOUT_FILENO;
+use numbers::byte_at;
+use numbers::least;
+use stored_spec::MOST_ROWS;
 
 fn say(text: &[u8]) {
     io::write_all(STDOUT_FILENO, text);
@@ -11,23 +14,6 @@ fn say(text: &[u8]) {
 
 fn say_number(x: usize) {
     io::print_decimal(STDOUT_FILENO, x as u64);
-}
-
-fn least(a: usize, b: usize) -> usize
-    ensures { λ r. ⌜ (r ≤ a) × (r ≤ b) ⌝ }
-{
-    if a < b {
-        return a;
-    }
-    b
-}
-
-// Byte i, 0 where there is none.
-fn byte_at(bytes: &[u8], i: usize) -> u8 {
-    if i < bytes.len() {
-        return bytes[i];
-    }
-    0
 }
 
 // "ok", "refused N", "idle" or "went BLOCK CELL".
@@ -113,10 +99,10 @@ fn say_bad_line(number: usize) {
     say(b": not understood\n");
 }
 
-fn row_memory() -> [u8; 32768]
+fn row_memory() -> [u8; MOST_ROWS]
     ensures { λ r. ⌜ 32768 ≡ length r ⌝ }
 {
-    [0u8; 32768]
+    [0u8; MOST_ROWS]
 }
 
 fn code_memory() -> [u8; 16384]
@@ -150,7 +136,7 @@ fn run_lines(lines: &[u8], memory: usize) {
     let mut rows = row_memory();
     let read = call_text::read_text(lines, 2, &mut code);
     let size = least(read.size, 16384);
-    let lent = least(memory, 32768);
+    let lent = least(memory, MOST_ROWS);
     run_calls(&code[..size], &mut rows[..lent]);
     if read.bad != 0 {
         say_bad_line(read.bad);
@@ -159,7 +145,7 @@ fn run_lines(lines: &[u8], memory: usize) {
 
 fn run_text(text: &[u8]) {
     let memory = call_text::memory_said(text);
-    if 32768 < memory {
+    if MOST_ROWS < memory {
         say_bad_line(1);
         return;
     }

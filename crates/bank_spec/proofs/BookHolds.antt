@@ -43,7 +43,7 @@ pub record Latched (k : Book) : Type 0 where
   pub steps : ℕ
   pub is : k ≡ stepped steps (bookLatch before words .state)
 
-pub record Held (S : ℕ) (k : Book) : Type 0 where
+pub record Sound (S : ℕ) (k : Book) : Type 0 where
   pub limit : cellsIn (k .blocks) ≤ S
   pub few : length (k .blocks) ≤ 8
   pub formed : (b : ℕ) → b < length (k .blocks) → wellFormed (blockAt (k .blocks) b .records) (blockAt (k .blocks) b .rows) ≡ true
@@ -70,8 +70,8 @@ ran-at k (inr c) b h =
     subst (λ (x : Book). Ran (blockAt (x .blocks) b)) (sym (c .is)) (ran-latched p (c .words) (c .steps) b l)
 
 -- a call that keeps records and rows
-held-kept : (S : ℕ) (k l : Book) → Kept (l .blocks) (k .blocks) → Held S k → Rests l ⊎ Latched l → Held S l
-held-kept S k l kept h shape =
+sound-kept : (S : ℕ) (k l : Book) → Kept (l .blocks) (k .blocks) → Sound S k → Rests l ⊎ Latched l → Sound S l
+sound-kept S k l kept h shape =
     record {
       limit = omega (arith, kept-cells (l .blocks) (k .blocks) kept, h .limit);
       few = omega (arith, kept .long, h .few);
@@ -79,9 +79,9 @@ held-kept S k l kept h shape =
       shape = shape;
     }
 
-latch-held : (S : ℕ) (k : Book) (ws : List ℕ) → Held S k → Held S (bookLatch k ws .state)
+latch-sound : (S : ℕ) (k : Book) (ws : List ℕ) → Sound S k → Sound S (bookLatch k ws .state)
 unfolding stepped
-latch-held S k ws h = held-kept S k (bookLatch k ws .state) (latch-kept k ws) h (inr (record { before = k; words = ws; steps = 0; is = refl }))
+latch-sound S k ws h = sound-kept S k (bookLatch k ws .state) (latch-kept k ws) h (inr (record { before = k; words = ws; steps = 0; is = refl }))
 
 step-shape : (k : Book) → Rests k ⊎ Latched k → Rests (bookStep (k .blocks) (k .toRead) .state) ⊎ Latched (bookStep (k .blocks) (k .toRead) .state)
 unfolding stepped
@@ -95,9 +95,9 @@ step-shape k (inr c) =
       is = ap (λ (x : Book). bookStep (x .blocks) (x .toRead) .state) (c .is);
     })
 
-step-held : (S : ℕ) (k : Book) → Held S k → Held S (bookStep (k .blocks) (k .toRead) .state)
+step-sound : (S : ℕ) (k : Book) → Sound S k → Sound S (bookStep (k .blocks) (k .toRead) .state)
 unfolding stepped
-step-held S k h = held-kept S k (bookStep (k .blocks) (k .toRead) .state) (stepped-kept (suc zero) k) h (step-shape k (h .shape))
+step-sound S k h = sound-kept S k (bookStep (k .blocks) (k .toRead) .state) (stepped-kept (suc zero) k) h (step-shape k (h .shape))
 
 -- the blocks after an accepted admission
 module _ (k : Book) (R bytes : List ℕ) where
@@ -161,9 +161,9 @@ not-refused S m bs R bytes e =
     let r = cond-zero (ltb S (cellsIn bs + cellCount R)) 14 unmet (omega arith) (q .1) in
     (not-no (wellFormed R bytes) (p .0), leb-false 8 (length bs) (q .0), ltb-false S (cellsIn bs + cellCount R) (r .0))
 
-entered-held : (S m : ℕ) (k : Book) (R bytes : List ℕ) → Held S k → bookRefusal S m (k .blocks) R bytes ≡ 0 → Held S (entered k R bytes)
+entered-sound : (S m : ℕ) (k : Book) (R bytes : List ℕ) → Sound S k → bookRefusal S m (k .blocks) R bytes ≡ 0 → Sound S (entered k R bytes)
 unfolding wiped
-entered-held S m k R bytes h e =
+entered-sound S m k R bytes h e =
     let fine = not-refused S m (k .blocks) R bytes e in
     record {
       limit = omega (arith, entered-cells k R bytes, fine .2);
@@ -172,22 +172,22 @@ entered-held S m k R bytes h e =
       shape = inl (entered-rests k R bytes);
     }
 
-held-call : (S m : ℕ) (k : Book) (c : Call) → Held S k → Held S (bookCall S m k c .state)
+sound-call : (S m : ℕ) (k : Book) (c : Call) → Sound S k → Sound S (bookCall S m k c .state)
 unfolding bookCall bookAdmit
-held-call S m k (admission R bytes) h =
-    cond-each (Held S) (eqb (bookRefusal S m (k .blocks) R bytes) 0)
-    (λ e. entered-held S m k R bytes h (eqb-true (bookRefusal S m (k .blocks) R bytes) 0 e)) (λ e. h)
-held-call S m k (latching ws) h = latch-held S k ws h
-held-call S m k stepping h = step-held S k h
+sound-call S m k (admission R bytes) h =
+    cond-each (Sound S) (eqb (bookRefusal S m (k .blocks) R bytes) 0)
+    (λ e. entered-sound S m k R bytes h (eqb-true (bookRefusal S m (k .blocks) R bytes) 0 e)) (λ e. h)
+sound-call S m k (latching ws) h = latch-sound S k ws h
+sound-call S m k stepping h = step-sound S k h
 
-held-after : (S m : ℕ) (k : Book) (calls : List Call) → Held S k → Held S (bookAfter S m k calls)
+sound-after : (S m : ℕ) (k : Book) (calls : List Call) → Sound S k → Sound S (bookAfter S m k calls)
 unfolding bookAfter
-held-after S m k [] h = h
-held-after S m k (c ∷ cs) h = held-after S m (bookCall S m k c .state) cs (held-call S m k c h)
+sound-after S m k [] h = h
+sound-after S m k (c ∷ cs) h = sound-after S m (bookCall S m k c .state) cs (sound-call S m k c h)
 
-new-held : (S : ℕ) → Held S newBook
+new-sound : (S : ℕ) → Sound S newBook
 unfolding cellsIn
-new-held S =
+new-sound S =
     record {
       limit = omega arith;
       few = omega arith;
@@ -196,24 +196,24 @@ new-held S =
     }
 
 module _ (S m : ℕ) (calls : List Call) where
-  pub book-held : Held S (bookAfter S m newBook calls)
-  book-held = held-after S m newBook calls (new-held S)
+  pub book-sound : Sound S (bookAfter S m newBook calls)
+  book-sound = sound-after S m newBook calls (new-sound S)
 
   pub book-limit : cellsIn (bookAfter S m newBook calls .blocks) ≤ S
-  book-limit = book-held .limit
+  book-limit = book-sound .limit
 
   pub book-few : length (bookAfter S m newBook calls .blocks) ≤ 8
-  book-few = book-held .few
+  book-few = book-sound .few
 
   pub book-formed : (b : ℕ) → b < length (bookAfter S m newBook calls .blocks)
       → wellFormed (blockAt (bookAfter S m newBook calls .blocks) b .records) (blockAt (bookAfter S m newBook calls .blocks) b .rows) ≡ true
-  book-formed = book-held .formed
+  book-formed = book-sound .formed
 
   pub book-runs : (b : ℕ) → b < length (bookAfter S m newBook calls .blocks)
       → (n : ℕ) × (n ≤ cellCount (blockAt (bookAfter S m newBook calls .blocks) b .records))
       × (blockAt (bookAfter S m newBook calls .blocks) b .outputs
       ≡ run (blockAt (bookAfter S m newBook calls .blocks) b .records) (blockAt (bookAfter S m newBook calls .blocks) b .rows) (blockAt (bookAfter S m newBook calls .blocks) b .word) n .outputs)
-  book-runs b h = ran-at (bookAfter S m newBook calls) (book-held .shape) b h
+  book-runs b h = ran-at (bookAfter S m newBook calls) (book-sound .shape) b h
 
   -- each output of a compiled block is unset or set to an allowed value
   pub book-allowed : (b : ℕ) (j : Job) (sheet : List ℕ) → b < length (bookAfter S m newBook calls .blocks)

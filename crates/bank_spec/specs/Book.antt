@@ -8,6 +8,7 @@ use lib.Dec.{eqb, leb, ltb}
 use lib.ListN.{length, getD, set}
 use Rattle.laws.specs.Tests.{sum}
 use Rattle.laws.specs.Lists.{tab, joined}
+use Rattle.sheet_spec.specs.Limits.{mostBlocks, mostRows}
 use Rattle.stored_spec.specs.StoredForm.{wellFormed, cellCount, cellAt, rowCount}
 use Rattle.stored_spec.specs.Run.{rowPlace, outputsAfter, railAfter, unset}
 use Rattle.bank_spec.specs.Calls.{accepted, idle, went, After, numbered}
@@ -51,9 +52,9 @@ rowsIn bs = sum (length bs) (λ b. rowCount (blockAt bs b .records))
 unfoldable pub bookRefusal : ℕ → ℕ → List Block → List ℕ → List ℕ → ℕ
 bookRefusal S m bs R bytes =
     cond (not (wellFormed R bytes)) 12
-    (cond (leb 8 (length bs)) 13
+    (cond (leb mostBlocks (length bs)) 13
     (cond (ltb S (cellsIn bs + cellCount R)) 14
-    (cond (ltb m (rowsIn bs + rowCount R) || ltb 32768 (rowsIn bs + rowCount R)) 11 0)))
+    (cond (ltb m (rowsIn bs + rowCount R) || ltb mostRows (rowsIn bs + rowCount R)) 11 0)))
 
 -- the block with the word w, its rail word 0 and nothing set
 unfoldable pub wiped : ℕ → Block → Block

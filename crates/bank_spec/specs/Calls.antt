@@ -6,6 +6,7 @@ use mathlib.Core.List.{List}
 use lib.Dec.{eqb, leb, ltb}
 use lib.ListN.{length, getD, set, take, drop}
 use Rattle.laws.specs.Lists.{tab, written}
+use Rattle.sheet_spec.specs.Limits.{mostBlocks, mostOutputs, mostRows, mostRecordBytes}
 use Rattle.stored_spec.specs.StoredForm.{wellFormed, cellCount, cellAt, rowCount}
 use Rattle.stored_spec.specs.Run.{rowPlace, outputsAfter, railAfter}
 use Rattle.bank_spec.specs.State.{State, Bank, Scan, recordsOf, cellsHeld, rowsBefore, rowsHeld, formed, atRest, cleared}
@@ -37,9 +38,9 @@ pub record After (A : Type 0) : Type 0 where
 unfoldable pub admitRefusal : State → List ℕ → List ℕ → ℕ
 admitRefusal s R bytes =
     cond (not (formed (s .bank) (s .scan) && wellFormed R bytes)) 12
-    (cond (leb 8 (s .bank .count)) 13
+    (cond (leb mostBlocks (s .bank .count)) 13
     (cond (ltb (s .bank .limit) (cellsHeld (s .bank) + cellCount R)) 14
-    (cond (ltb (length (s .rows)) (rowsHeld (s .bank) + rowCount R) || ltb 32768 (rowsHeld (s .bank) + rowCount R)) 11 0)))
+    (cond (ltb (length (s .rows)) (rowsHeld (s .bank) + rowCount R) || ltb mostRows (rowsHeld (s .bank) + rowCount R)) 11 0)))
 
 -- admission copies a block's records
 unfoldable pub withBlock : Bank → List ℕ → Bank
@@ -48,7 +49,7 @@ withBlock k R =
       limit = k .limit;
       count = k .count + 1;
       lengths = set (k .lengths) (k .count) (length R / 4);
-      records = written (k .records) (k .count * 80) R;
+      records = written (k .records) (k .count * mostRecordBytes) R;
     }
 
 -- and appends its rows; it clears all set outputs and leaves no scan running
@@ -67,7 +68,7 @@ scanAt on b c r ws outs = record { running = on; block = b; cell = c; rail = r; 
 
 -- the words kept: one for each block held, bits above 11 left out
 unfoldable pub wordsKept : Bank → List ℕ → List ℕ
-wordsKept k ws = tab 8 (λ b. cond (ltb b (k .count)) (getD ws b 0 % 4096) 0)
+wordsKept k ws = tab mostBlocks (λ b. cond (ltb b (k .count)) (getD ws b 0 % 4096) 0)
 
 -- latching clears all set outputs and starts a scan; with no block there is nothing to read
 unfoldable pub latched : Bank → List ℕ → Scan
@@ -87,14 +88,14 @@ nextRow k s rows =
 
 -- the outputs of block b
 unfoldable pub outputsOf : Scan → ℕ → List ℕ
-outputsOf s b = take 8 (drop (b * 8) (s .outputs))
+outputsOf s b = take mostOutputs (drop (b * mostOutputs) (s .outputs))
 
 -- the scan state moved on by one read, of the row x. Blocks are read in order of admission, each block's cells top first
 unfoldable pub moved : Bank → Scan → ℕ → Scan
 moved k s x =
     let R = recordsOf k (s .block) in
     let c = cellAt R (s .cell) in
-    let outs = written (s .outputs) (s .block * 8) (outputsAfter c (outputsOf s (s .block)) x) in
+    let outs = written (s .outputs) (s .block * mostOutputs) (outputsAfter c (outputsOf s (s .block)) x) in
     cond (ltb (s .cell + 1) (cellCount R)) (scanAt true (s .block) (s .cell + 1) (railAfter c x) (s .words) outs)
     (cond (ltb (s .block + 1) (k .count)) (scanAt true (s .block + 1) 0 0 (s .words) outs) (scanAt false 0 0 0 (s .words) outs))
 

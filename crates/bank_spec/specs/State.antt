@@ -6,6 +6,7 @@ use mathlib.Core.List.{List}
 use lib.Dec.{leb, ltb}
 use lib.ListN.{getD, take, drop, replicate}
 use Rattle.laws.specs.Tests.{every, sum, within}
+use Rattle.sheet_spec.specs.Limits.{mostBlocks, mostOutputs, mostRows, mostScan, mostVariables, mostRecordBytes}
 use Rattle.stored_spec.specs.StoredForm.{recordsFormed, cellCount, cellAt, rowCount}
 pub use Rattle.bank_spec.specs.declared.Bank.{Bank}
 pub use Rattle.bank_spec.specs.declared.Scan.{Scan}
@@ -17,7 +18,7 @@ pub record State : Type 0 where
 
 -- the records of the block at place b
 unfoldable pub recordsOf : Bank → ℕ → List ℕ
-recordsOf k b = take (getD (k .lengths) b 0 * 4) (drop (b * 80) (k .records))
+recordsOf k b = take (getD (k .lengths) b 0 * 4) (drop (b * mostRecordBytes) (k .records))
 
 -- the cells, and the rows, of the blocks before place b
 unfoldable pub cellsBefore : Bank → ℕ → ℕ
@@ -35,12 +36,12 @@ rowsHeld k = rowsBefore k (k .count)
 
 -- a block whose records are well formed
 unfoldable pub blockFormed : Bank → ℕ → Bool
-blockFormed k b = within 1 20 (getD (k .lengths) b 0) && recordsFormed (recordsOf k b)
+blockFormed k b = within 1 mostVariables (getD (k .lengths) b 0) && recordsFormed (recordsOf k b)
 
 -- 12 of the bank: an S out of range, over 8 blocks, a block not well formed, more cells than S, over 32,768 rows
 unfoldable pub bankFormed : Bank → Bool
 bankFormed k =
-    within 1 255 (k .limit) && leb (k .count) 8 && every (k .count) (blockFormed k) && leb (cellsHeld k) (k .limit) && leb (rowsHeld k) 32768
+    within 1 mostScan (k .limit) && leb (k .count) mostBlocks && every (k .count) (blockFormed k) && leb (cellsHeld k) (k .limit) && leb (rowsHeld k) mostRows
 
 -- 12 of the scan state: with reads left, a block, cell or rail word outside those held
 unfoldable pub scanFormed : Bank → Scan → Bool
@@ -54,21 +55,21 @@ formed k s = bankFormed k && scanFormed k s
 
 -- all outputs unset; the scan state with no scan, and none of block, cell and rail word
 abbrev pub cleared : List ℕ
-cleared = replicate 64 2
+cleared = replicate (mostBlocks * mostOutputs) 2
 
 abbrev pub atRest : Scan
-atRest = record { running = false; block = 0; cell = 0; rail = 0; words = replicate 8 0; outputs = cleared }
+atRest = record { running = false; block = 0; cell = 0; rail = 0; words = replicate mostBlocks 0; outputs = cleared }
 
 -- a bank just made, with its fresh scan state
 abbrev pub emptyBank : ℕ → Bank
-emptyBank S = record { limit = S; count = 0; lengths = replicate 8 0; records = replicate 640 0 }
+emptyBank S = record { limit = S; count = 0; lengths = replicate mostBlocks 0; records = replicate (mostBlocks * mostRecordBytes) 0 }
 
 abbrev pub fresh : ℕ → List ℕ → State
 fresh S rows = record { bank = emptyBank S; scan = atRest; rows = rows }
 
 -- 1: S out of range
 unfoldable pub limitRefused : ℕ → Bool
-limitRefused S = not (within 1 255 S)
+limitRefused S = not (within 1 mostScan S)
 
 abbrev pub stateOf : Bank → Scan → List ℕ → State
 stateOf k s rows = record { bank = k; scan = s; rows = rows }

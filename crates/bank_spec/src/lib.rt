@@ -1,11 +1,22 @@
 // Bank, scan state, admission, latch, step, the book: definitions and their laws, demand 3 among them.
+use sheet_spec::MOST_OUTPUTS;
+use stored_spec::MOST_RECORD_BYTES;
+
+// The blocks that a bank holds, the greatest scan limit, and what the blocks' records and outputs take.
+pub const MOST_BLOCKS: usize = 8;
+
+pub const MOST_SCAN: u16 = 255;
+
+pub const BANK_RECORD_BYTES: usize = MOST_BLOCKS * MOST_RECORD_BYTES;
+
+pub const BANK_OUTPUTS: usize = MOST_BLOCKS * MOST_OUTPUTS;
 
 // A bank: the scan limit S, how many blocks are held, the number of records of each, and their records, 80 bytes a place.
 pub struct Bank {
     pub limit: u16,
     pub count: u8,
-    pub lengths: [u8; 8],
-    pub records: [u8; 640],
+    pub lengths: [u8; MOST_BLOCKS],
+    pub records: [u8; BANK_RECORD_BYTES],
 }
 
 // A scan state: whether reads are left, the block, cell and rail word of the next read, the latched word of each place, and the
@@ -15,8 +26,8 @@ pub struct Scan {
     pub block: u8,
     pub cell: u8,
     pub rail: u16,
-    pub words: [u16; 8],
-    pub outputs: [u8; 64],
+    pub words: [u16; MOST_BLOCKS],
+    pub outputs: [u8; BANK_OUTPUTS],
 }
 
 // What a step answers: the block and the cell that it read, that there is nothing to read, or the number of its refusal.

@@ -11,7 +11,6 @@ ghost use Rattle.call_text.specs.Words.{begins, decimal, isNumber, hexBy
 ghost use Rattle.call_text.specs.Lines.{low, high, bankLine, wordPlace, isWordByte, latchLine, admitLine, memoryWord, lineIn, linesIn};
 use crate::TextRead;
 use crate::words::begins;
-use crate::words::byte_at;
 use crate::words::byte_in;
 use crate::words::hex_byte;
 use crate::words::is_bytes;
@@ -19,6 +18,7 @@ use crate::words::is_hex;
 use crate::words::is_number;
 use crate::words::number;
 use crate::words::put_bytes;
+use numbers::byte_at;
 
 // A line: whether it can be read, and how many bytes its call has.
 pub struct LineRead {

@@ -7,6 +7,7 @@ ghost use lib.ListN.{length, getD};
 ghost use Rattle.laws.specs.Tests.{every, least};
 ghost use Rattle.laws.specs.Lists.{putsAt};
 ghost use Rattle.call_text.specs.Words.{begins, isDigit, decimal, isNumber, hexDigit, isHex, hexByte, isBytes};
+use numbers::byte_at;
 
 // The place of the first byte that is x, the length where there is none.
 pub fn byte_in(text: &[u8], x: u8) -> usize
@@ -33,16 +34,6 @@ pub fn begins(word: &[u8], text: &[u8]) -> bool
         i += 1;
     }
     good
-}
-
-// Byte i, 0 where the text has ended.
-pub fn byte_at(text: &[u8], i: usize) -> u8
-    ensures { λ r. ⌜ r ≡ getD (now (text .entry)) i 0 ⌝ }
-{
-    if i < text.len() {
-        return text[i];
-    }
-    0
 }
 
 fn is_digit(text: &[u8], i: usize) -> bool

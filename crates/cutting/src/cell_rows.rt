@@ -7,35 +7,21 @@ ghost use lib.ListN.{length, getD};
 ghost use Rattle.laws.specs.Lists.{putsAt};
 ghost use Rattle.laws.specs.Bits.{has};
 ghost use Rattle.sheet_spec.specs.Job.{isInput};
-ghost use Rattle.reduction_spec.specs.Walk.{lowOf, highOf};
 ghost use Rattle.reduction_spec.specs.Descent.{descend};
 ghost use Rattle.cutting.specs.RowWalks.{rowFrom, nodeRow, walkedRow};
-use crate::casts::wide as wide8;
+use crate::casts::narrow16;
+use numbers::long16;
+use numbers::wide;
+use numbers::wide16;
+use reduction_spec::NodeWords;
+use walks::nodes::high_of;
+use walks::nodes::low_of;
 
 fn power(n: u8) -> usize
     requires { ⌜ n ≤ 12 ⌝ }
     ensures { λ r. ⌜ (r ≡ 2 ^ n) × (r ≤ 4096) ⌝ }
 {
     1 << n
-}
-
-fn word(x: usize) -> u16
-    requires { ⌜ x < 65536 ⌝ }
-    ensures { λ r. ⌜ r ≡ x ⌝ }
-{
-    x as u16
-}
-
-fn wide(x: u16) -> usize
-    ensures { λ r. ⌜ (r ≡ x) × (r < 65536) ⌝ }
-{
-    x as usize
-}
-
-fn long(x: u16) -> u32
-    ensures { λ r. ⌜ r ≡ x ⌝ }
-{
-    x as u32
 }
 
 fn byte(x: u32) -> u8
@@ -68,43 +54,14 @@ fn row_from(o: u32, node: u16, lower: u16, rails: usize) -> u8
     requires { ⌜ (rails ≤ 8) × (o * 2 ^ rails + (node - lower) < 256) ⌝ }
     ensures { λ r. ⌜ r ≡ o * 2 ^ rails + (node - lower) ⌝ }
 {
-    byte(raised(o, rails) + long(less(node, lower)))
-}
-
-// The child of node v for 0; for 1.
-fn low_of(words: &[u16; 30720], v: u16) -> u16
-    requires { ⌜ 2 ≤ v ⌝ }
-    ensures { λ r. ⌜ r ≡ lowOf (now (words .entry)) v ⌝ }
-{
-    if v < 10242 {
-        return words[(wide(v) - 2) * 3 + 1];
-    }
-    0
-}
-
-fn high_of(words: &[u16; 30720], v: u16) -> u16
-    requires { ⌜ 2 ≤ v ⌝ }
-    ensures { λ r. ⌜ r ≡ highOf (now (words .entry)) v ⌝ }
-{
-    if v < 10242 {
-        return words[(wide(v) - 2) * 3 + 2];
-    }
-    0
+    byte(raised(o, rails) + long16(less(node, lower)))
 }
 
 // The variable k + 1 heights above bottom is an input.
 fn is_input_at(order: &[u8], bottom: u8, k: u8) -> bool
     ensures { λ r. ⌜ r ≡ isInput (getD (now (order .entry)) (length (now (order .entry)) - suc (bottom + k)) 0) ⌝ }
 {
-    let t = order.len();
-    let h = wide8(bottom) + wide8(k);
-    if h < t {
-        return order[t - 1 - h] < 128;
-    }
-    if t == 0 {
-        return true;
-    }
-    order[0] < 128
+    walks::nodes::is_input_at(order, wide(bottom) + wide(k))
 }
 
 // The child that the lowest bit of x chooses.
@@ -152,7 +109,7 @@ fn write_same(row: u8, at: usize, size: usize, rows: &mut [u8])
 // The row of the node k heights above bottom, where o are the outputs met above it. No input is left to be read: one that is met still has
 // the lowest bit of x.
 fn last_row(
-    words: &[u16; 30720],
+    words: &NodeWords,
     order: &[u8],
     bottom: u8,
     k: u8,
@@ -184,7 +141,7 @@ fn last_row(
 // The 2^count rows, from x on, of a node k heights above bottom. o are the outputs met above it, x the values of the inputs met there with
 // zeros for the count inputs still to be read. Each input read splits the block in two.
 fn fill_block(
-    words: &[u16; 30720],
+    words: &NodeWords,
     order: &[u8],
     bottom: u8,
     k: u8,
@@ -275,7 +232,7 @@ fn heights(top: u8, bottom: u8) -> u8
 
 // The size rows of one node at the upper cut.
 fn write_column(
-    words: &[u16; 30720],
+    words: &NodeWords,
     order: &[u8],
     top: u8,
     bottom: u8,
@@ -310,7 +267,7 @@ fn write_column(
 
 // The rows of the width columns at the upper cut, size rows each.
 fn write_columns(
-    words: &[u16; 30720],
+    words: &NodeWords,
     order: &[u8],
     top: u8,
     bottom: u8,
@@ -332,7 +289,7 @@ fn write_columns(
 {
     let mut c = 0;
     while c < width {
-        let node = word(wide(upper) + c);
+        let node = narrow16(wide16(upper) + c);
         write_column(
             words,
             order,
@@ -353,7 +310,7 @@ fn write_columns(
 // The size rows of the cell from the cut top down to the cut bottom, written from at on. upper is the node of column 0 at top, where width
 // columns are, lower that at bottom; count inputs stand between. Rows of unused rail words are 0.
 pub fn write_rows(
-    words: &[u16; 30720],
+    words: &NodeWords,
     order: &[u8],
     top: u8,
     bottom: u8,

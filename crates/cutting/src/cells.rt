@@ -9,13 +9,15 @@ ghost use Rattle.cutting.specs.Plan.{widthUp, firstIn, rowsTo, rowBetwee
 use crate::casts::less;
 use crate::casts::narrow;
 use crate::casts::narrow16;
-use crate::casts::wide;
-use crate::casts::wide16;
 use crate::cell_rows::write_rows;
 use crate::choice::cell_at;
+use numbers::wide;
+use numbers::wide16;
+use reduction_spec::NodeWords;
+use reduction_spec::Widths;
 
 // The width at height h, which is 1 at t.
-fn width_up(t: usize, widths: &[u16; 20], h: usize) -> usize
+fn width_up(t: usize, widths: &Widths, h: usize) -> usize
     requires { ⌜ t ≤ 20 ⌝ }
     ensures { λ r. ⌜ r ≡ widthUp t (now (widths .entry)) h ⌝ }
 {
@@ -26,7 +28,7 @@ fn width_up(t: usize, widths: &[u16; 20], h: usize) -> usize
 }
 
 // The node of column 0 at height h.
-fn first_node(t: usize, widths: &[u16; 20], h: usize) -> usize
+fn first_node(t: usize, widths: &Widths, h: usize) -> usize
     requires { ⌜ (t ≤ 20) × (h ≤ t) × ((g : ℕ) → g ≤ t → widthUp t (now widths) g ≤ 512) ⌝ }
     ensures { λ r. ⌜ (r ≡ firstIn t (now (widths .entry)) h) × (r ≤ 10242) ⌝ }
 {
@@ -45,9 +47,9 @@ fn first_node(t: usize, widths: &[u16; 20], h: usize) -> usize
 // The rows of the cell between the cuts top and bottom, from at on; answers their number.
 fn write_cell(
     t: usize,
-    words: &[u16; 30720],
+    words: &NodeWords,
     order: &[u8],
-    widths: &[u16; 20],
+    widths: &Widths,
     rails: &[u8; 21],
     inputs: &[u8; 21],
     top: usize,
@@ -90,9 +92,9 @@ fn write_cell(
 // The rows of all cells, one after another.
 pub fn write_cells(
     t: usize,
-    words: &[u16; 30720],
+    words: &NodeWords,
     order: &[u8],
-    widths: &[u16; 20],
+    widths: &Widths,
     rails: &[u8; 21],
     inputs: &[u8; 21],
     cuts: &[u8; 21],

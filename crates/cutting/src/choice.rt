@@ -8,7 +8,7 @@ ghost use Rattle.cutting.specs.Ways.{fewer, withCutAt, listCell, listWay
 use crate::casts::less;
 use crate::casts::narrow;
 use crate::casts::power;
-use crate::casts::wide;
+use numbers::wide;
 use stored_spec::Cell;
 
 // The best way from a height: its number of cuts, the bits of its cells, and the next cut below. No cuts: there is no way.

@@ -6,13 +6,15 @@ ghost use Rattle.cutting_spec.specs.Compile.{refused};
 ghost use Rattle.cutting.specs.Outcome.{answered, outcomeOf, outcome};
 use crate::Compilation;
 use crate::casts::narrow16;
-use crate::casts::wide;
-use crate::casts::wide16;
 use crate::cells::write_cells;
 use crate::plan::plan_cells;
 use crate::records::write_records;
 use crate::records::write_words;
+use numbers::wide;
+use numbers::wide16;
 use reduction::reduce;
+use reduction_spec::NODE_WORDS;
+use sheet_spec::MOST_VARIABLES;
 
 fn refusal(number: u8) -> Compilation
     ensures { λ r. ⌜ r ≡ answered (refused number) ⌝ }
@@ -23,7 +25,7 @@ fn refusal(number: u8) -> Compilation
         cells: 0,
         rows: 0,
         bits: 0,
-        widths: [0u16; 20],
+        widths: [0u16; MOST_VARIABLES],
     }
 }
 
@@ -42,8 +44,8 @@ pub fn compile_all(
         ⌜ outcomeOf r (now (nodes .exit)) (now (records .exit)) (now (rows .exit))
         ≡ outcome (now (nodes .entry)) (now (records .entry)) (now (rows .entry)) (job n m k l (now (order .entry))) (now (sheet .entry)) ⌝ }
 {
-    let mut widths = [0u16; 20];
-    let mut words = [0u16; 30720];
+    let mut widths = [0u16; MOST_VARIABLES];
+    let mut words = [0u16; NODE_WORDS];
     let reduced = reduce(n, m, k, l, order, sheet, &mut widths, &mut words);
     if reduced.refusal != 0 {
         return refusal(reduced.refusal);

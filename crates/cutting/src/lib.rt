@@ -12,8 +12,9 @@ ghost use Rattle.sheet_spec.specs.Job.{job};
 ghost use Rattle.stored_spec.specs.Rails.{rails};
 ghost use Rattle.cutting.specs.Outcome.{outcomeOf, outcome};
 use crate::casts::narrow;
-use crate::casts::wide16;
 use crate::plan::rails_of;
+use numbers::wide16;
+use reduction_spec::Widths;
 
 // What the compiler answers: a refusal, 1 to 11, or 0 and the totals. widths[h] is the width at height h, for 0 to t - 1, and 0 above.
 pub struct Compilation {
@@ -22,7 +23,7 @@ pub struct Compilation {
     pub cells: u8,
     pub rows: u16,
     pub bits: u32,
-    pub widths: [u16; 20],
+    pub widths: Widths,
 }
 
 // The compiler: the cascade of a job and its sheet. Where nothing is refused nodes holds three words a node (height, child for 0, child for 1),

@@ -8,10 +8,11 @@ ghost use Rattle.sheet_spec.specs.Job.{isInput};
 ghost use Rattle.stored_spec.specs.Rails.{rails};
 ghost use Rattle.cutting.specs.Plan.{inputsIn, railsIn, cutIn, rowsTo, planned};
 use crate::casts::narrow;
-use crate::casts::wide;
-use crate::casts::wide16;
 use crate::choice::cell_at;
 use crate::choice::choose;
+use numbers::wide;
+use numbers::wide16;
+use reduction_spec::Widths;
 
 // The inputs and rails at the heights 0 to t, the cuts, top first, cells + 1 of them, and the totals. No cells: there is no cut list.
 pub struct Plan {
@@ -64,7 +65,7 @@ pub fn rails_of(w: usize) -> usize
 }
 
 // The rails at each height from 0 to t.
-fn fill_rails(t: usize, widths: &[u16; 20], rails: &mut [u8; 21])
+fn fill_rails(t: usize, widths: &Widths, rails: &mut [u8; 21])
     requires { ⌜ t ≤ 20 ⌝ }
     ensures { λ _. ⌜ now (rails .exit) ≡ puts (t + 1) (railsIn t (now (widths .entry))) (now (rails .entry)) ⌝ }
 {
@@ -108,7 +109,7 @@ fn row_total(cells: usize, rails: &[u8; 21], inputs: &[u8; 21], cuts: &[u8; 21])
 }
 
 // The plan for an order of t variables and the widths at the heights below t.
-pub fn plan_cells(t: usize, k: usize, l: usize, order: &[u8], widths: &[u16; 20]) -> Plan
+pub fn plan_cells(t: usize, k: usize, l: usize, order: &[u8], widths: &Widths) -> Plan
     requires { ⌜ (t ≤ 20) × (k ≤ 12) × (l ≤ 8) × (length (now order) ≡ t) ⌝ }
     ensures { λ r. ⌜ r ≡ planned t k l (now (order .entry)) (now (widths .entry)) ⌝ }
 {

@@ -8,7 +8,8 @@ ghost use lib.Seq.{sets};
 ghost use Rattle.laws.specs.Lists.{joined, puts};
 ghost use Rattle.laws.specs.Bits.{flag};
 ghost use Rattle.cutting.specs.Plan.{isCut, recordIn};
-use crate::casts::wide;
+use numbers::wide;
+use reduction_spec::NodeWords;
 
 // g is one of the first count cuts.
 fn is_cut(cuts: &[u8; 21], count: usize, g: usize) -> bool
@@ -69,7 +70,7 @@ pub fn write_records(
 }
 
 // The first count words.
-pub fn write_words(count: usize, from: &[u16; 30720], to: &mut [u16])
+pub fn write_words(count: usize, from: &NodeWords, to: &mut [u16])
     requires { ⌜ (count ≤ 30720) × (count ≤ length (now to)) ⌝ }
     ensures { λ _. ⌜ now (to .exit) ≡ puts count (λ i. getD (now (from .entry)) i 0) (now (to .entry)) ⌝ }
 {

@@ -8,6 +8,7 @@ use lib.ListN.{length}
 use Rattle.sheet_spec.specs.Job.{Job, t}
 use Rattle.stored_spec.specs.Cells.{allFit, rowTotal, bitTotal}
 use Rattle.cutting_spec.specs.Cuts.{cutLists, cellsOf}
+use Rattle.sheet_spec.specs.Limits.{mostRows}
 
 -- the list l has a longer first cell than k; or as long a one, and a longer second; and so on
 unfoldable pub longer : List ℕ → List ℕ → Bool
@@ -20,7 +21,7 @@ longer (a ∷ b ∷ l) (c ∷ []) = false
 module _ (j : Job) (ws : List ℕ) where
   -- it meets K, L and 32,768 rows
   unfoldable pub admissible : List ℕ → Bool
-  admissible l = allFit (j .K) (j .L) (cellsOf j ws l) && leb (rowTotal (cellsOf j ws l)) 32768
+  admissible l = allFit (j .K) (j .L) (cellsOf j ws l) && leb (rowTotal (cellsOf j ws l)) mostRows
 
   -- fewest cells, then fewest bits, then the longest first cell, then second, and so on
   unfoldable pub better : List ℕ → List ℕ → Bool

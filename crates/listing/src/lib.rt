@@ -6,6 +6,14 @@ ghost use Rattle.cutting.specs.Outcome.{outcomeOf, outcome};
 ghost use Rattle.listing.specs.Split.{number, jobOf, sheetOf};
 use cutting::Compilation;
 use libc::STDOUT_FILENO;
+use numbers::least;
+use numbers::wide;
+use reduction_spec::NODE_WORDS;
+use reduction_spec::NodeWords;
+use reduction_spec::Widths;
+use sheet_spec::MOST_VARIABLES;
+use stored_spec::MOST_RECORD_BYTES;
+use stored_spec::MOST_ROWS;
 
 // Byte i of the input, 0 where it has ended.
 fn number(input: &[u8], i: usize) -> usize
@@ -15,21 +23,6 @@ fn number(input: &[u8], i: usize) -> usize
         return wide(input[i]);
     }
     0
-}
-
-fn wide(x: u8) -> usize
-    ensures { λ r. ⌜ (r ≡ x) × (r < 256) ⌝ }
-{
-    x as usize
-}
-
-fn least(a: usize, b: usize) -> usize
-    ensures { λ r. ⌜ (r ≡ min a b) × (r ≤ a) × (r ≤ b) ⌝ }
-{
-    if a < b {
-        return a;
-    }
-    b
 }
 
 // The compiler on the job and the sheet of the input.
@@ -85,8 +78,8 @@ fn print_height(h: usize, width: u16) {
 }
 
 // Per height its line, from t - 1 down to 0.
-fn print_heights(t: usize, widths: &[u16; 20]) {
-    let mut h = least(t, 20);
+fn print_heights(t: usize, widths: &Widths) {
+    let mut h = least(t, MOST_VARIABLES);
     while h > 0 {
         h -= 1;
         print_height(h, widths[h]);
@@ -117,22 +110,22 @@ fn print_cells(cells: usize, records: &[u8], rows: &[u8]) {
     }
 }
 
-fn node_memory() -> [u16; 30720]
+fn node_memory() -> NodeWords
     ensures { λ r. ⌜ 30720 ≡ length r ⌝ }
 {
-    [0u16; 30720]
+    [0u16; NODE_WORDS]
 }
 
-fn record_memory() -> [u8; 80]
+fn record_memory() -> [u8; MOST_RECORD_BYTES]
     ensures { λ r. ⌜ 80 ≡ length r ⌝ }
 {
-    [0u8; 80]
+    [0u8; MOST_RECORD_BYTES]
 }
 
-fn row_memory() -> [u8; 32768]
+fn row_memory() -> [u8; MOST_ROWS]
     ensures { λ r. ⌜ 32768 ≡ length r ⌝ }
 {
-    [0u8; 32768]
+    [0u8; MOST_ROWS]
 }
 
 // Prints the listing of the job and sheet of the input, or "refused N".
@@ -150,7 +143,7 @@ pub fn list(input: &[u8]) {
     let t = number(input, 0) + number(input, 1);
     let widths = compiled.widths;
     print_heights(t, &widths);
-    let used = least(t * 4, 80);
+    let used = least(t * 4, MOST_RECORD_BYTES);
     print_cells(wide(compiled.cells), &records[..used], &rows);
 }
 

@@ -11,6 +11,7 @@ ghost use Rattle.node_table.specs.Nodes.{noNode};
 use crate::nodes::fill;
 use crate::words::compile_words;
 use cutting::Compilation;
+use reduction_spec::NODE_WORDS;
 use reduction_spec::Node;
 
 // The compiler over a table of node records: as cutting's, which has three words a node.
@@ -29,7 +30,7 @@ pub fn compile(
         ⌜ (let c = compile (now (nodes .entry)) (now (records .entry)) (now (rows .entry)) (job n m k l (now (order .entry))) (now (sheet .entry)) in
         (r ≡ answered (c .answer)) × (now (nodes .exit) ≡ c .nodes) × (now (records .exit) ≡ c .records) × (now (rows .exit) ≡ c .rows)) ⌝ }
 {
-    let mut words = [0u16; 30720];
+    let mut words = [0u16; NODE_WORDS];
     let r = compile_words(
         n,
         m,

@@ -6,14 +6,16 @@ ghost use Rattle.sheet_spec.specs.Job.{job};
 ghost use Rattle.cutting.specs.Outcome.{outcomeOf, outcome};
 ghost use Rattle.node_table.specs.Nodes.{wordsFor};
 use cutting::Compilation;
+use reduction_spec::MOST_NODES;
+use reduction_spec::NODE_WORDS;
 
 fn words_for(lent: usize) -> usize
     ensures { λ r. ⌜ (r ≡ wordsFor lent) × (r ≤ 30720) ⌝ }
 {
-    if lent < 10240 {
+    if lent < MOST_NODES {
         return lent * 3;
     }
-    30720
+    NODE_WORDS
 }
 
 // The words past those that serve the table are left as they are.

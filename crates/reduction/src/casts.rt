@@ -1,4 +1,4 @@
-// Small numbers: bytes and words widened, powers of two.
+// Small numbers: bytes widened, words narrowed, powers of two.
 ghost use mathlib.Core.Path.{_≡_};
 ghost use Prim.Native.Nat.{_≤_, _<_, _^_};
 
@@ -6,12 +6,6 @@ pub fn wide(x: u8) -> u64
     ensures { λ r. ⌜ (r ≡ x) × (r < 256) ⌝ }
 {
     x as u64
-}
-
-pub fn wide16(x: u16) -> usize
-    ensures { λ r. ⌜ (r ≡ x) × (r < 65536) ⌝ }
-{
-    x as usize
 }
 
 pub fn power(n: usize) -> usize

@@ -8,6 +8,8 @@ ghost use Rattle.laws.specs.Bits.{flag};
 ghost use Rattle.laws.specs.Lists.{puts};
 ghost use Rattle.reduction_spec.specs.Cover.{isIn, cover};
 ghost use Rattle.reduction.specs.RunningKeys.{Growth, Stand, degree, firstKey, growing, joining, keeping, leastKey, lesser, lowered, turn, turns};
+use reduction_spec::Links;
+use reduction_spec::MOST_COLUMNS;
 
 fn lesser(a: u32, b: u32) -> u32
     ensures { λ r. ⌜ r ≡ lesser a b ⌝ }
@@ -19,7 +21,7 @@ fn lesser(a: u32, b: u32) -> u32
 }
 
 // The least of the first w keys.
-fn least_key(w: usize, keys: &[u32; 512]) -> u32
+fn least_key(w: usize, keys: &[u32; MOST_COLUMNS]) -> u32
     requires { ⌜ w ≤ 512 ⌝ }
     ensures { λ r. ⌜ r ≡ leastKey (now (keys .entry)) w ⌝ }
 {
@@ -42,7 +44,7 @@ fn one(x: u8) -> u32
 }
 
 // The edges of column c when all columns are left. A column is not its own neighbour, whatever its flag.
-fn degree(w: usize, link: &[u8; 262144], c: usize) -> u32
+fn degree(w: usize, link: &Links, c: usize) -> u32
     requires { ⌜ (w ≤ 512) × (c < w) ⌝ }
     ensures { λ r. ⌜ (r ≡ degree w (now (link .entry)) c) × (r ≤ 512) ⌝ }
 {
@@ -57,7 +59,7 @@ fn degree(w: usize, link: &[u8; 262144], c: usize) -> u32
 }
 
 // The keys when all columns are left.
-fn first_keys(w: usize, link: &[u8; 262144], keys: &mut [u32; 512])
+fn first_keys(w: usize, link: &Links, keys: &mut [u32; MOST_COLUMNS])
     requires { ⌜ w ≤ 512 ⌝ }
     ensures { λ _. ⌜ now (keys .exit) ≡ puts w (firstKey w (now (link .entry))) (now (keys .entry)) ⌝ }
 {
@@ -89,7 +91,7 @@ fn keeping(x: u8, k: u32) -> u32
 }
 
 // Keys are lowered along the line of the graph that starts at base.
-fn lower(w: usize, link: &[u8; 262144], base: usize, keys: &mut [u32; 512])
+fn lower(w: usize, link: &Links, base: usize, keys: &mut [u32; MOST_COLUMNS])
     requires { ⌜ (w ≤ 512) × (base + w ≤ 262144) ⌝ }
     ensures { λ _.
         ⌜ now (keys .exit) ≡ puts w (λ d. lowered (getD (now (link .entry)) (base + d) 0) (getD (now (keys .entry)) d 0)) (now (keys .entry)) ⌝ }
@@ -102,7 +104,7 @@ fn lower(w: usize, link: &[u8; 262144], base: usize, keys: &mut [u32; 512])
 }
 
 // Candidates stay along the line of the graph that starts at base.
-fn keep(w: usize, link: &[u8; 262144], base: usize, cand: &mut [u32; 512])
+fn keep(w: usize, link: &Links, base: usize, cand: &mut [u32; MOST_COLUMNS])
     requires { ⌜ (w ≤ 512) × (base + w ≤ 262144) ⌝ }
     ensures { λ _.
         ⌜ now (cand .exit) ≡ puts w (λ d. keeping (getD (now (link .entry)) (base + d) 0) (getD (now (cand .entry)) d 0)) (now (cand .entry)) ⌝ }
@@ -117,12 +119,12 @@ fn keep(w: usize, link: &[u8; 262144], base: usize, cand: &mut [u32; 512])
 // Column u joins clique g.
 fn join(
     w: usize,
-    link: &[u8; 262144],
+    link: &Links,
     g: u16,
     u: usize,
-    keys: &mut [u32; 512],
-    cand: &mut [u32; 512],
-    owner: &mut [u16; 512],
+    keys: &mut [u32; MOST_COLUMNS],
+    cand: &mut [u32; MOST_COLUMNS],
+    owner: &mut [u16; MOST_COLUMNS],
 )
     requires { ⌜ (w ≤ 512) × (u * w + w ≤ 262144) × (u < 512) ⌝ }
     ensures { λ _.
@@ -146,12 +148,12 @@ fn column(k: u32) -> usize
 // Candidates, of which first is the least key, join clique g while there are any.
 fn grow(
     w: usize,
-    link: &[u8; 262144],
+    link: &Links,
     g: u16,
     first: u32,
-    keys: &mut [u32; 512],
-    cand: &mut [u32; 512],
-    owner: &mut [u16; 512],
+    keys: &mut [u32; MOST_COLUMNS],
+    cand: &mut [u32; MOST_COLUMNS],
+    owner: &mut [u16; MOST_COLUMNS],
 )
     requires { ⌜ (w ≤ 512) × (first ≡ leastKey (now cand) w) ⌝ }
     ensures { λ _.
@@ -170,7 +172,7 @@ fn grow(
     }
 }
 
-fn copy_keys(w: usize, from: &[u32; 512], to: &mut [u32; 512])
+fn copy_keys(w: usize, from: &[u32; MOST_COLUMNS], to: &mut [u32; MOST_COLUMNS])
     requires { ⌜ w ≤ 512 ⌝ }
     ensures { λ _. ⌜ now (to .exit) ≡ puts w (λ c. getD (now (from .entry)) c 0) (now (to .entry)) ⌝ }
 {
@@ -181,7 +183,7 @@ fn copy_keys(w: usize, from: &[u32; 512], to: &mut [u32; 512])
     }
 }
 
-fn copy_numbers(w: usize, from: &[u16; 512], to: &mut [u16; 512])
+fn copy_numbers(w: usize, from: &[u16; MOST_COLUMNS], to: &mut [u16; MOST_COLUMNS])
     requires { ⌜ w ≤ 512 ⌝ }
     ensures { λ _. ⌜ now (to .exit) ≡ puts w (λ c. getD (now (from .entry)) c 0) (now (to .entry)) ⌝ }
 {
@@ -195,11 +197,11 @@ fn copy_numbers(w: usize, from: &[u16; 512], to: &mut [u16; 512])
 // The round of clique g, where k is the least key. A column without edges is a clique of its own.
 fn turn(
     w: usize,
-    link: &[u8; 262144],
+    link: &Links,
     g: u16,
     k: u32,
-    keys: &mut [u32; 512],
-    owner: &mut [u16; 512],
+    keys: &mut [u32; MOST_COLUMNS],
+    owner: &mut [u16; MOST_COLUMNS],
 )
     requires { ⌜ (w ≤ 512) × (k ≡ leastKey (now keys) w) ⌝ }
     ensures { λ _.
@@ -212,13 +214,13 @@ fn turn(
         owner[u] = g;
         return;
     }
-    let mut cand = [0u32; 512];
+    let mut cand = [0u32; MOST_COLUMNS];
     copy_keys(w, keys, &mut cand);
     grow(w, link, g, k, keys, &mut cand, owner);
 }
 
 // Rounds while columns are left.
-fn turns(w: usize, link: &[u8; 262144], keys: &mut [u32; 512], owner: &mut [u16; 512])
+fn turns(w: usize, link: &Links, keys: &mut [u32; MOST_COLUMNS], owner: &mut [u16; MOST_COLUMNS])
     requires { ⌜ w ≤ 512 ⌝ }
     ensures { λ _.
         ⌜ _≡_ {A = Stand} (record { keys = now (keys .exit); owner = now (owner .exit) })
@@ -236,12 +238,12 @@ fn turns(w: usize, link: &[u8; 262144], keys: &mut [u32; 512], owner: &mut [u16;
 }
 
 // The number of each of the w columns' cliques.
-pub fn cover(w: usize, link: &[u8; 262144], owner: &mut [u16; 512])
+pub fn cover(w: usize, link: &Links, owner: &mut [u16; MOST_COLUMNS])
     requires { ⌜ (w ≤ 512) × ((c d : ℕ) → c < w → d < w → isIn (now link) (c * w + d) ≡ isIn (now link) (d * w + c)) ⌝ }
     ensures { λ _. ⌜ now (owner .exit) ≡ puts w (λ c. getD (cover w (now (link .entry))) c 0) (now (owner .entry)) ⌝ }
 {
-    let mut keys = [0u32; 512];
-    let mut numbers = [0u16; 512];
+    let mut keys = [0u32; MOST_COLUMNS];
+    let mut numbers = [0u16; MOST_COLUMNS];
     first_keys(w, link, &mut keys);
     turns(w, link, &mut keys, &mut numbers);
     copy_numbers(w, &numbers, owner);

@@ -11,7 +11,8 @@ ghost use Rattle.laws.specs.Bits.{flag};
 ghost use Rattle.reduction_spec.specs.Numbering.{indexIn, firstsOf};
 ghost use Rattle.reduction.specs.Distinct.{sameWords};
 ghost use Rattle.reduction.specs.ColumnHashes.{stirred, folded, keyOf, isKept, Inside};
-use crate::casts::wide16;
+use numbers::wide16;
+use reduction_spec::MOST_COLUMNS;
 
 // The words z and y stirred into k.
 fn stir(k: u64, z: u64, y: u64) -> u64
@@ -52,7 +53,7 @@ fn hit(a: u32, b: u32) -> u32
 }
 
 // Whether k is among the first count keys. No branch: the loop is taken several keys at a time.
-fn any_key(keys: &[u32; 512], count: usize, k: u32) -> bool
+fn any_key(keys: &[u32; MOST_COLUMNS], count: usize, k: u32) -> bool
     requires { ⌜ count ≤ 512 ⌝ }
     ensures { λ r. ⌜ r ≡ any count (λ c. eqb (getD (now (keys .entry)) c 0) k) ⌝ }
 {
@@ -109,8 +110,8 @@ fn find_same(
     zero: &[u64; 1024],
     one: &[u64; 1024],
     size: usize,
-    keys: &[u32; 512],
-    kept: &[u16; 512],
+    keys: &[u32; MOST_COLUMNS],
+    kept: &[u16; MOST_COLUMNS],
     count: usize,
     q: usize,
     k: u32,
@@ -134,8 +135,8 @@ fn index_of(
     zero: &[u64; 1024],
     one: &[u64; 1024],
     size: usize,
-    keys: &[u32; 512],
-    kept: &[u16; 512],
+    keys: &[u32; MOST_COLUMNS],
+    kept: &[u16; MOST_COLUMNS],
     count: usize,
     q: usize,
     k: u32,
@@ -156,8 +157,8 @@ fn keep(
     count: usize,
     q: u16,
     k: u32,
-    keys: &mut [u32; 512],
-    kept: &mut [u16; 512],
+    keys: &mut [u32; MOST_COLUMNS],
+    kept: &mut [u16; MOST_COLUMNS],
 ) -> usize
     requires { ⌜ c < 512 ⌝ }
     ensures { λ r. ⌜ r ≡ cond (eqb c count) (count + 1) count ⌝ }
@@ -173,7 +174,7 @@ fn keep(
 }
 
 // The first count elements.
-fn copy(kept: &[u16; 512], count: usize, firsts: &mut [u16; 512])
+fn copy(kept: &[u16; MOST_COLUMNS], count: usize, firsts: &mut [u16; MOST_COLUMNS])
     requires { ⌜ count ≤ 512 ⌝ }
     ensures { λ _. ⌜ now (firsts .exit) ≡ puts count (λ c. getD (now (kept .entry)) c 0) (now (firsts .entry)) ⌝ }
 {
@@ -191,7 +192,7 @@ pub fn number(
     size: usize,
     zero: &[u64; 1024],
     one: &[u64; 1024],
-    firsts: &mut [u16; 512],
+    firsts: &mut [u16; MOST_COLUMNS],
     numbers: &mut [u16; 1024],
 ) -> usize
     requires { ⌜ (cands ≤ 1024) × (1 ≤ size) × (cands * size ≤ 1024) ⌝ }
@@ -211,14 +212,14 @@ pub fn number(
         (λ q. indexIn (sameWords (now (zero .entry)) (now (one .entry)) size) (firstsOf (sameWords (now (zero .entry)) (now (one .entry)) size) q) q)
         (now (numbers .entry))) ⌝ }
 {
-    let mut keys = [0u32; 512];
-    let mut kept = [0u16; 512];
+    let mut keys = [0u32; MOST_COLUMNS];
+    let mut kept = [0u16; MOST_COLUMNS];
     let mut count = 0;
     let mut q = 0;
     while q < cands {
         let k = key(zero, one, size, q);
         let c = index_of(zero, one, size, &keys, &kept, count, q, k);
-        if c == 512 {
+        if c == MOST_COLUMNS {
             return 513;
         }
         count = keep(c, count, q as u16, k, &mut keys, &mut kept);

@@ -20,9 +20,12 @@ use crate::node_words::input_nodes;
 use crate::node_words::output_nodes;
 use crate::node_words::top_values;
 use crate::packed::candidates;
+use reduction_spec::Links;
+use reduction_spec::MOST_COLUMNS;
+use reduction_spec::NodeWords;
 
 // The clique of each of w columns. Where none are linked each is a clique of its own, and the cover would only say so.
-fn own(linked: bool, w: usize, link: &[u8; 262144], owner: &mut [u16; 512])
+fn own(linked: bool, w: usize, link: &Links, owner: &mut [u16; MOST_COLUMNS])
     requires { ⌜ (w ≤ 512) × ((c d : ℕ) → c < w → d < w → isIn (now link) (c * w + d) ≡ isIn (now link) (d * w + c)) ⌝ }
     ensures { λ _.
         ⌜ now (owner .exit)
@@ -41,9 +44,9 @@ fn group(
     size: usize,
     zero: &[u64; 1024],
     one: &[u64; 1024],
-    firsts: &[u16; 512],
-    link: &mut [u8; 262144],
-    nums: &mut [u16; 512],
+    firsts: &[u16; MOST_COLUMNS],
+    link: &mut Links,
+    nums: &mut [u16; MOST_COLUMNS],
 ) -> usize
     requires { ⌜ (w ≤ 512) × (1 ≤ size) × (length (now link) ≡ 262144) × ((c : ℕ) → c < w → getD (now firsts) c 0 * size + size ≤ 1024) ⌝ }
     ensures { λ r. ⌜ r ≡ length (cliqueFirsts size (now (zero .entry)) (now (one .entry)) w (now (firsts .entry))) ⌝ }
@@ -51,7 +54,7 @@ fn group(
     ensures { λ _. ⌜ length (now (link .exit)) ≡ 262144 ⌝ }
 {
     let linked = link_columns(w, size, zero, one, firsts, link);
-    let mut owner = [0u16; 512];
+    let mut owner = [0u16; MOST_COLUMNS];
     own(linked, w, link, &mut owner);
     renumber(w, &owner, nums)
 }
@@ -77,7 +80,7 @@ fn lower(
     w: usize,
     zero: &mut [u64; 1024],
     one: &mut [u64; 1024],
-    link: &mut [u8; 262144],
+    link: &mut Links,
     below: &mut [u16; 1024],
 ) -> usize
     requires { ⌜ (b ≤ 8) × (w ≤ 512) × (1 ≤ size) × (w * 2 * size ≤ 1024) × (length (now link) ≡ 262144) ⌝ }
@@ -101,13 +104,13 @@ fn lower(
     let mut os = [0u64; 1024];
     candidates(input, a, b, size, w, one, &mut os);
     let cands = candidate_count(input, w);
-    let mut firsts = [0u16; 512];
+    let mut firsts = [0u16; MOST_COLUMNS];
     let mut numbers = [0u16; 1024];
     let count = number(cands, size, &zs, &os, &mut firsts, &mut numbers);
-    if 512 < count {
+    if MOST_COLUMNS < count {
         return 513;
     }
-    let mut nums = [0u16; 512];
+    let mut nums = [0u16; MOST_COLUMNS];
     let cliques = group(count, size, &zs, &os, &firsts, link, &mut nums);
     add_columns(count, size, &firsts, &nums, &zs, zero);
     add_columns(count, size, &firsts, &nums, &os, one);
@@ -126,8 +129,8 @@ fn lower_input(
     base: usize,
     zero: &mut [u64; 1024],
     one: &mut [u64; 1024],
-    link: &mut [u8; 262144],
-    words: &mut [u16; 30720],
+    link: &mut Links,
+    words: &mut NodeWords,
 ) -> usize
     requires { ⌜ (b ≤ 8) × (w ≤ 512) × (1 ≤ size) × (w * 2 * size ≤ 1024) × (length (now link) ≡ 262144) × (at + w ≤ 10240) × (base ≤ 20000) ⌝ }
     ensures { λ r.
@@ -146,7 +149,7 @@ fn lower_input(
 {
     let mut below = [0u16; 1024];
     let cliques = lower(true, a, b, size, w, zero, one, link, &mut below);
-    if 512 < cliques {
+    if MOST_COLUMNS < cliques {
         return 513;
     }
     input_nodes(w, at, height, base, &below, words);
@@ -164,8 +167,8 @@ fn lower_output(
     base: usize,
     zero: &mut [u64; 1024],
     one: &mut [u64; 1024],
-    link: &mut [u8; 262144],
-    words: &mut [u16; 30720],
+    link: &mut Links,
+    words: &mut NodeWords,
 ) -> usize
     requires { ⌜ (b < 8) × (w ≤ 512) × (1 ≤ size) × (w * 2 * size ≤ 1024) × (length (now link) ≡ 262144) × (at + w ≤ 10240) × (base ≤ 20000) ⌝ }
     ensures { λ r.
@@ -182,11 +185,11 @@ fn lower_output(
         ≡ sets (now (words .entry)) (at * 3) (nodeWords (nodesOver false a b size w (now (zero .entry)) (now (one .entry)) height base))) ⌝ }
     ensures { λ r. ⌜ (r ≤ 512 → length (now (link .exit)) ≡ 262144) ⌝ }
 {
-    let mut values = [0u8; 512];
+    let mut values = [0u8; MOST_COLUMNS];
     top_values(w, size, b, zero, one, &mut values);
     let mut below = [0u16; 1024];
     let cliques = lower(false, a, b, size, w, zero, one, link, &mut below);
-    if 512 < cliques {
+    if MOST_COLUMNS < cliques {
         return 513;
     }
     output_nodes(w, at, height, base, &values, &below, words);
@@ -205,8 +208,8 @@ pub fn step(
     base: usize,
     zero: &mut [u64; 1024],
     one: &mut [u64; 1024],
-    link: &mut [u8; 262144],
-    words: &mut [u16; 30720],
+    link: &mut Links,
+    words: &mut NodeWords,
 ) -> usize
     requires { ⌜ (b ≤ 8) × (input ≡ false → b < 8) × (w ≤ 512) × (1 ≤ size) × (w * 2 * size ≤ 1024) × (length (now link) ≡ 262144) × (at + w ≤ 10240) × (base ≤ 20000) ⌝ }
     ensures { λ r.

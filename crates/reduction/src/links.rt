@@ -12,7 +12,9 @@ ghost use Rattle.laws.specs.Bits.{marks};
 ghost use Rattle.reduction.specs.Distinct.{agreeWords, linkedWords};
 ghost use Rattle.reduction.specs.ColumnHashes.{Inside};
 ghost use Rattle.reduction.specs.FirstBytes.{byteOf, byteAt, Short, Spread, Flags, other, agreeTo, narrowed, confirmed};
-use crate::casts::wide16;
+use numbers::wide16;
+use reduction_spec::Links;
+use reduction_spec::MOST_COLUMNS;
 
 // Byte x of a word.
 fn byte_of(word: u64, x: usize) -> u8
@@ -27,7 +29,7 @@ fn spread_byte(
     w: usize,
     size: usize,
     words: &[u64; 1024],
-    firsts: &[u16; 512],
+    firsts: &[u16; MOST_COLUMNS],
     x: usize,
     bytes: &mut [u8; 4096],
 )
@@ -44,7 +46,13 @@ fn spread_byte(
 }
 
 // The eight bytes.
-fn spread(w: usize, size: usize, words: &[u64; 1024], firsts: &[u16; 512], bytes: &mut [u8; 4096])
+fn spread(
+    w: usize,
+    size: usize,
+    words: &[u64; 1024],
+    firsts: &[u16; MOST_COLUMNS],
+    bytes: &mut [u8; 4096],
+)
     requires { ⌜ (w ≤ 512) × (1 ≤ size) × (length (now bytes) ≡ 4096) × Inside w size (now firsts) ⌝ }
     ensures { λ _. ⌜ Spread w (now (words .entry)) size (now (firsts .entry)) 8 (now (bytes .exit)) ⌝ }
 {
@@ -74,7 +82,7 @@ fn narrow(
     w: usize,
     zs: &[u8; 4096],
     os: &[u8; 4096],
-    row: &mut [u8; 512],
+    row: &mut [u8; MOST_COLUMNS],
 ) -> u8
     requires { ⌜ (w ≤ 512) × (from ≤ 3584) ⌝ }
     ensures { λ r. ⌜ r ≡ marks 0 (narrowed z y from (now (zs .entry)) (now (os .entry)) (now (row .entry))) w ⌝ }
@@ -93,7 +101,13 @@ fn narrow(
 }
 
 // Narrows the row of column c by the eight bytes, or by fewer where none is left before. Answers whether some may be left.
-fn narrow_all(c: usize, w: usize, zs: &[u8; 4096], os: &[u8; 4096], row: &mut [u8; 512]) -> bool
+fn narrow_all(
+    c: usize,
+    w: usize,
+    zs: &[u8; 4096],
+    os: &[u8; 4096],
+    row: &mut [u8; MOST_COLUMNS],
+) -> bool
     requires { ⌜ (c < w) × (w ≤ 512) × Flags w (other c) (now row) ⌝ }
     ensures { λ _. ⌜ Flags w (agreeTo (now (zs .entry)) (now (os .entry)) c 8) (now (row .exit)) ⌝ }
     ensures { λ r. ⌜ (r ≡ false → any w (agreeTo (now (zs .entry)) (now (os .entry)) c 8) ≡ false) ⌝ }
@@ -148,8 +162,8 @@ fn confirm_row(
     size: usize,
     zero: &[u64; 1024],
     one: &[u64; 1024],
-    firsts: &[u16; 512],
-    row: &mut [u8; 512],
+    firsts: &[u16; MOST_COLUMNS],
+    row: &mut [u8; MOST_COLUMNS],
 )
     requires { ⌜ (c < w) × (w ≤ 512) × Inside w size (now firsts) ⌝ }
     ensures { λ _.
@@ -168,7 +182,7 @@ fn confirm_row(
 }
 
 // Ones.
-fn raise(w: usize, row: &mut [u8; 512])
+fn raise(w: usize, row: &mut [u8; MOST_COLUMNS])
     requires { ⌜ w ≤ 512 ⌝ }
     ensures { λ _. ⌜ now (row .exit) ≡ puts w (λ _. 1) (now (row .entry)) ⌝ }
 {
@@ -180,7 +194,7 @@ fn raise(w: usize, row: &mut [u8; 512])
 }
 
 // The row of column c, before any comparison.
-fn start_row(c: usize, w: usize, row: &mut [u8; 512])
+fn start_row(c: usize, w: usize, row: &mut [u8; MOST_COLUMNS])
     requires { ⌜ (c < w) × (w ≤ 512) × (length (now row) ≡ 512) ⌝ }
     ensures { λ _. ⌜ Flags w (other c) (now (row .exit)) ⌝ }
 {
@@ -195,10 +209,10 @@ fn fill_row(
     size: usize,
     zero: &[u64; 1024],
     one: &[u64; 1024],
-    firsts: &[u16; 512],
+    firsts: &[u16; MOST_COLUMNS],
     zs: &[u8; 4096],
     os: &[u8; 4096],
-    row: &mut [u8; 512],
+    row: &mut [u8; MOST_COLUMNS],
 )
     requires { ⌜ (c < w) × (w ≤ 512) × (1 ≤ size) × (length (now row) ≡ 512) × Inside w size (now firsts) ⌝ }
     requires { ⌜ Spread w (now zero) size (now firsts) 8 (now zs) × Spread w (now one) size (now firsts) 8 (now os) ⌝ }
@@ -216,7 +230,7 @@ fn fill_row(
 }
 
 // The first w flags of a row are stored from place from on. Answers them, as bits of one byte.
-fn store_row(from: usize, w: usize, row: &[u8; 512], link: &mut [u8; 262144]) -> u8
+fn store_row(from: usize, w: usize, row: &[u8; MOST_COLUMNS], link: &mut Links) -> u8
     requires { ⌜ (w ≤ 512) × (from + w ≤ 262144) ⌝ }
     ensures { λ r. ⌜ r ≡ marks 0 (λ d. getD (now (row .entry)) d 0) w ⌝ }
     ensures { λ _. ⌜ now (link .exit) ≡ putsAt from w (λ d. getD (now (row .entry)) d 0) (now (link .entry)) ⌝ }
@@ -238,10 +252,10 @@ fn link_row(
     size: usize,
     zero: &[u64; 1024],
     one: &[u64; 1024],
-    firsts: &[u16; 512],
+    firsts: &[u16; MOST_COLUMNS],
     zs: &[u8; 4096],
     os: &[u8; 4096],
-    link: &mut [u8; 262144],
+    link: &mut Links,
 ) -> bool
     requires { ⌜ (c < w) × (w ≤ 512) × (1 ≤ size) × Inside w size (now firsts) ⌝ }
     requires { ⌜ Spread w (now zero) size (now firsts) 8 (now zs) × Spread w (now one) size (now firsts) 8 (now os) ⌝ }
@@ -250,7 +264,7 @@ fn link_row(
         ⌜ now (link .exit)
         ≡ putsAt (c * w) w (λ d. flag (linkedWords (now (zero .entry)) (now (one .entry)) size (now (firsts .entry)) c d)) (now (link .entry)) ⌝ }
 {
-    let mut row = [0u8; 512];
+    let mut row = [0u8; MOST_COLUMNS];
     fill_row(c, w, size, zero, one, firsts, zs, os, &mut row);
     store_row(c * w, w, &row, link) == 1
 }
@@ -261,10 +275,10 @@ fn link_rows(
     size: usize,
     zero: &[u64; 1024],
     one: &[u64; 1024],
-    firsts: &[u16; 512],
+    firsts: &[u16; MOST_COLUMNS],
     zs: &[u8; 4096],
     os: &[u8; 4096],
-    link: &mut [u8; 262144],
+    link: &mut Links,
 ) -> bool
     requires { ⌜ (w ≤ 512) × (1 ≤ size) × Inside w size (now firsts) ⌝ }
     requires { ⌜ Spread w (now zero) size (now firsts) 8 (now zs) × Spread w (now one) size (now firsts) 8 (now os) ⌝ }
@@ -291,8 +305,8 @@ pub fn link_columns(
     size: usize,
     zero: &[u64; 1024],
     one: &[u64; 1024],
-    firsts: &[u16; 512],
-    link: &mut [u8; 262144],
+    firsts: &[u16; MOST_COLUMNS],
+    link: &mut Links,
 ) -> bool
     requires { ⌜ (w ≤ 512) × (1 ≤ size) × ((c : ℕ) → c < w → getD (now firsts) c 0 * size + size ≤ 1024) ⌝ }
     ensures { λ r. ⌜ r ≡ any w (λ c. any w (linkedWords (now (zero .entry)) (now (one .entry)) size (now (firsts .entry)) c)) ⌝ }

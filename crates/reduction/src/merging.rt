@@ -10,10 +10,11 @@ ghost use Rattle.reduction_spec.specs.Numbering.{indexIn, firstsOf};
 ghost use Rattle.reduction.specs.Distinct.{sameOwner};
 ghost use Rattle.reduction.specs.Packed.{addedColumns};
 use crate::casts::narrow16;
-use crate::casts::wide16;
+use numbers::wide16;
+use reduction_spec::MOST_COLUMNS;
 
 // owner 0, 1, 2, ..: each column a clique of its own.
-pub fn apart(w: usize, owner: &mut [u16; 512])
+pub fn apart(w: usize, owner: &mut [u16; MOST_COLUMNS])
     requires { ⌜ w ≤ 512 ⌝ }
     ensures { λ _. ⌜ now (owner .exit) ≡ puts w (λ c. c) (now (owner .entry)) ⌝ }
 {
@@ -47,7 +48,7 @@ fn counted(s: u16, count: usize) -> usize
 }
 
 // The cliques numbered by their first columns: each column's number; answers how many there are.
-pub fn renumber(w: usize, owner: &[u16; 512], nums: &mut [u16; 512]) -> usize
+pub fn renumber(w: usize, owner: &[u16; MOST_COLUMNS], nums: &mut [u16; MOST_COLUMNS]) -> usize
     requires { ⌜ (w ≤ 512) × ((c : ℕ) → c < w → getD (now owner) c 0 < 512) ⌝ }
     ensures { λ r. ⌜ r ≡ length (firstsOf (sameOwner (now (owner .entry))) w) ⌝ }
     ensures { λ _.
@@ -56,7 +57,7 @@ pub fn renumber(w: usize, owner: &[u16; 512], nums: &mut [u16; 512]) -> usize
         (λ c. indexIn (sameOwner (now (owner .entry))) (firstsOf (sameOwner (now (owner .entry))) c) c)
         (now (nums .entry)) ⌝ }
 {
-    let mut seen = [0u16; 512];
+    let mut seen = [0u16; MOST_COLUMNS];
     let mut count = 0;
     let mut c = 0;
     while c < w {
@@ -100,8 +101,8 @@ fn add_column(size: usize, first: usize, number: usize, from: &[u64; 1024], to: 
 pub fn add_columns(
     w: usize,
     size: usize,
-    firsts: &[u16; 512],
-    nums: &[u16; 512],
+    firsts: &[u16; MOST_COLUMNS],
+    nums: &[u16; MOST_COLUMNS],
     from: &[u64; 1024],
     to: &mut [u64; 1024],
 )
@@ -125,7 +126,12 @@ pub fn add_columns(
 }
 
 // The number below of each candidate.
-pub fn children(cands: usize, numbers: &[u16; 1024], nums: &[u16; 512], below: &mut [u16; 1024])
+pub fn children(
+    cands: usize,
+    numbers: &[u16; 1024],
+    nums: &[u16; MOST_COLUMNS],
+    below: &mut [u16; 1024],
+)
     requires { ⌜ (cands ≤ 1024) × ((q : ℕ) → q < cands → getD (now numbers) q 0 < 512) ⌝ }
     ensures { λ _.
         ⌜ now (below .exit) ≡ puts cands (λ q. getD (now (nums .entry)) (getD (now (numbers .entry)) q 0) 0) (now (below .entry)) ⌝ }

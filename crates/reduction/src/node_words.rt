@@ -10,7 +10,10 @@ ghost use Rattle.laws.specs.Lists.{tab, puts};
 ghost use Rattle.reduction.specs.Packed.{valueIn};
 ghost use Rattle.reduction_spec.specs.Diagram.{node, nodeWords};
 use crate::casts::narrow16;
-use crate::casts::wide16;
+use numbers::wide16;
+use reduction_spec::MOST_COLUMNS;
+use reduction_spec::NodeWords;
+use reduction_spec::Widths;
 
 // The value of line b at the first place of a column whose first words are z and o.
 fn value_in(z: u64, o: u64, b: usize) -> u8
@@ -33,7 +36,7 @@ pub fn top_values(
     b: usize,
     zero: &[u64; 1024],
     one: &[u64; 1024],
-    values: &mut [u8; 512],
+    values: &mut [u8; MOST_COLUMNS],
 )
     requires { ⌜ (w ≤ 512) × (1 ≤ size) × (w * size ≤ 1024) × (b < 8) ⌝ }
     ensures { λ _.
@@ -48,7 +51,7 @@ pub fn top_values(
 }
 
 // Node i of the table, counted from 0.
-fn store_node(i: usize, height: u16, low: u16, high: u16, words: &mut [u16; 30720])
+fn store_node(i: usize, height: u16, low: u16, high: u16, words: &mut NodeWords)
     requires { ⌜ i < 10240 ⌝ }
     ensures { λ _. ⌜ now (words .exit) ≡ sets (now (words .entry)) (i * 3) (height ∷ low ∷ high ∷ []) ⌝ }
 {
@@ -73,7 +76,7 @@ pub fn input_nodes(
     height: u16,
     base: usize,
     below: &[u16; 1024],
-    words: &mut [u16; 30720],
+    words: &mut NodeWords,
 )
     requires { ⌜ (w ≤ 512) × (at + w ≤ 10240) × (base ≤ 20000) × ((q : ℕ) → q < w * 2 → getD (now below) q 0 < 512) ⌝ }
     ensures { λ _.
@@ -108,9 +111,9 @@ pub fn output_nodes(
     at: usize,
     height: u16,
     base: usize,
-    values: &[u8; 512],
+    values: &[u8; MOST_COLUMNS],
     below: &[u16; 1024],
-    words: &mut [u16; 30720],
+    words: &mut NodeWords,
 )
     requires { ⌜ (w ≤ 512) × (at + w ≤ 10240) × (base ≤ 20000) × ((q : ℕ) → q < w → getD (now below) q 0 < 512) ⌝ }
     ensures { λ _.
@@ -133,7 +136,7 @@ pub fn output_nodes(
 }
 
 // The first count words.
-pub fn copy_words(count: usize, from: &[u16; 30720], to: &mut [u16; 30720])
+pub fn copy_words(count: usize, from: &NodeWords, to: &mut NodeWords)
     requires { ⌜ count ≤ 30720 ⌝ }
     ensures { λ _. ⌜ now (to .exit) ≡ puts count (λ i. getD (now (from .entry)) i 0) (now (to .entry)) ⌝ }
 {
@@ -144,7 +147,7 @@ pub fn copy_words(count: usize, from: &[u16; 30720], to: &mut [u16; 30720])
     }
 }
 
-pub fn copy_widths(count: usize, from: &[u16; 20], to: &mut [u16; 20])
+pub fn copy_widths(count: usize, from: &Widths, to: &mut Widths)
     requires { ⌜ count ≤ 20 ⌝ }
     ensures { λ _. ⌜ now (to .exit) ≡ puts count (λ i. getD (now (from .entry)) i 0) (now (to .entry)) ⌝ }
 {

@@ -11,6 +11,7 @@ ghost use Rattle.reduction.specs.Packed.{placesWith, packedWord, half, l
 use crate::casts::bit_of;
 use crate::casts::power;
 use crate::casts::wide;
+use sheet_spec::Table;
 
 // bit where x is v, else 0.
 fn mark(x: u8, v: u8, bit: u8) -> u8
@@ -23,14 +24,7 @@ fn mark(x: u8, v: u8, bit: u8) -> u8
 }
 
 // The places of one line that hold v get its bit.
-fn pack_line(
-    table: &[u8; 32768],
-    base: usize,
-    count: usize,
-    bit: u8,
-    v: u8,
-    places: &mut [u8; 4096],
-)
+fn pack_line(table: &Table, base: usize, count: usize, bit: u8, v: u8, places: &mut [u8; 4096])
     requires { ⌜ (count ≤ 4096) × (base + count ≤ 32768) ⌝ }
     ensures { λ _.
         ⌜ now (places .exit)
@@ -44,7 +38,7 @@ fn pack_line(
 }
 
 // All lines.
-fn pack_lines(n: usize, m: usize, table: &[u8; 32768], v: u8, places: &mut [u8; 4096])
+fn pack_lines(n: usize, m: usize, table: &Table, v: u8, places: &mut [u8; 4096])
     requires { ⌜ (n ≤ 12) × (m ≤ 8) ⌝ }
     ensures { λ _.
         ⌜ now (places .exit)
@@ -86,7 +80,7 @@ fn pack_words(places: &[u8; 4096], words: &mut [u64; 1024])
 }
 
 // The plane of the places of a table that hold v.
-pub fn pack(n: usize, m: usize, table: &[u8; 32768], v: u8, words: &mut [u64; 1024])
+pub fn pack(n: usize, m: usize, table: &Table, v: u8, words: &mut [u64; 1024])
     requires { ⌜ (n ≤ 12) × (m ≤ 8) ⌝ }
     ensures { λ _. ⌜ now (words .exit) ≡ puts 512 (packedWord (placesWith (now (table .entry)) n m v)) (now (words .entry)) ⌝ }
 {

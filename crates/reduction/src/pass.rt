@@ -16,7 +16,12 @@ ghost use Rattle.reduction_spec.specs.Reduction.{reductionRefusal, finalTable, 
 use crate::casts::narrow16;
 use crate::heights::step;
 use crate::packed::pack;
+use reduction_spec::LINKS;
+use reduction_spec::MOST_COLUMNS;
+use reduction_spec::NodeWords;
 use reduction_spec::Reduction;
+use reduction_spec::Widths;
+use sheet_spec::TABLE_BYTES;
 
 // The planes of the sheet's table, where no refusal is given.
 fn planes(
@@ -39,7 +44,7 @@ fn planes(
         → now (one .exit)
         ≡ puts 512 (packedWord (placesWith (tableAfter (job n m k l (now (order .entry))) (now (sheet .entry)) (replicate 32768 0)) n m 1)) (now (one .entry))) ⌝ }
 {
-    let mut table = [0u8; 32768];
+    let mut table = [0u8; TABLE_BYTES];
     let r = sheet::fill_table(n, m, k, l, order, sheet, &mut table);
     if r == 0 {
         pack(n, m, &table, 0, zero);
@@ -109,8 +114,8 @@ pub fn reduce_all(
     l: usize,
     order: &[u8],
     sheet: &[u8],
-    widths: &mut [u16; 20],
-    words: &mut [u16; 30720],
+    widths: &mut Widths,
+    words: &mut NodeWords,
 ) -> Reduction
     requires { ⌜ (now widths ≡ replicate 20 0) × (now words ≡ replicate 30720 0) ⌝ }
     ensures { λ r. ⌜ r ≡ reduction (job n m k l (now (order .entry))) (now (sheet .entry)) ⌝ }
@@ -130,7 +135,7 @@ pub fn reduce_all(
             nodes: 0,
         };
     }
-    let mut link = [0u8; 262144];
+    let mut link = [0u8; LINKS];
     let t = n + m;
     let mut a = n;
     let mut b = m;
@@ -158,7 +163,7 @@ pub fn reduce_all(
             &mut link,
             words,
         );
-        if 512 < count {
+        if MOST_COLUMNS < count {
             return Reduction {
                 refusal: 7,
                 nodes: 0,

@@ -5,6 +5,7 @@ use mathlib.Core.Bool.{Bool, cond, not, _&&_, _||_}
 use mathlib.Core.List.{List}
 use lib.Dec.{eqb, ltb, leb}
 use Rattle.reduction_spec.specs.Walk.{lowOf, highOf}
+use Rattle.sheet_spec.specs.Limits.{mostVariables}
 
 -- the same column: every walk ends alike
 unfoldable pub sameNodes : List ℕ → ℕ → ℕ → ℕ → Bool
@@ -30,7 +31,7 @@ compatibleNodes ws (suc h) v u =
 
 -- what is answered for any height: a diagram has at most 20, and nodes above that are neither
 unfoldable pub sameColumns : List ℕ → ℕ → ℕ → ℕ → Bool
-sameColumns ws h v u = leb h 20 && sameNodes ws h v u
+sameColumns ws h v u = leb h mostVariables && sameNodes ws h v u
 
 unfoldable pub compatibleColumns : List ℕ → ℕ → ℕ → ℕ → Bool
-compatibleColumns ws h v u = leb h 20 && compatibleNodes ws h v u
+compatibleColumns ws h v u = leb h mostVariables && compatibleNodes ws h v u

@@ -6,6 +6,7 @@ use mathlib.Core.List.{List}
 use lib.Dec.{eqb, ltb, leb}
 use lib.ListN.{length, getD}
 use Rattle.laws.specs.Bits.{has}
+use Rattle.sheet_spec.specs.Limits.{mostVariables}
 use Rattle.sheet_spec.specs.Job.{isInput}
 use Rattle.reduction_spec.specs.Walk.{lowOf, highOf}
 pub use Rattle.reduction_spec.specs.declared.Reached.{Reached}
@@ -28,4 +29,4 @@ module _ (ws order : List ℕ) (bottom : ℕ) where
 
 -- what is answered for any heights: a diagram has at most 20, and a walk from above that stays where it is
 unfoldable pub descent : List ℕ → List ℕ → ℕ → ℕ → ℕ → ℕ → ℕ → Reached
-descent ws order top bottom v x count = cond (leb top 20) (descend ws order bottom (top - bottom) v x count 0) (reached v 0)
+descent ws order top bottom v x count = cond (leb top mostVariables) (descend ws order bottom (top - bottom) v x count 0) (reached v 0)

@@ -8,6 +8,7 @@ use lib.ListN.{length, getD}
 use Rattle.laws.specs.Tests.{any}
 use Rattle.laws.specs.Lists.{tab, rect}
 use Rattle.laws.specs.Bits.{flag}
+use Rattle.sheet_spec.specs.Limits.{mostColumns}
 use Rattle.sheet_spec.specs.Job.{Job, t, ins, outs}
 use Rattle.sheet_spec.specs.Values.{free}
 use Rattle.reduction_spec.specs.Columns.{entry, firsts, numberIn, width}
@@ -53,7 +54,7 @@ reduced j f = merged j f (t j - 1)
 
 -- over 512 columns at height t - 1 - k before its merge
 unfoldable pub tooWide : Job → List ℕ → ℕ → Bool
-tooWide j f k = ltb 512 (width j (merged j f k) (t j - suc k))
+tooWide j f k = ltb mostColumns (width j (merged j f k) (t j - suc k))
 
 -- 7: at some height
 unfoldable pub refuse7 : Job → List ℕ → Bool

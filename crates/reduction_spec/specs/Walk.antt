@@ -7,13 +7,14 @@ use mathlib.Core.List.{List}
 use lib.Dec.{ltb}
 use lib.ListN.{getD}
 use Rattle.laws.specs.Bits.{has}
+use Rattle.sheet_spec.specs.Limits.{mostNodes}
 
 -- the low and the high child of node v, which is at least 2; a node outside the table of 10,240 nodes has the children 0
 abbrev pub lowOf : List ℕ → ℕ → ℕ
-lowOf ws v = cond (ltb v 10242) (getD ws ((v - 2) * 3 + 1) 0) 0
+lowOf ws v = cond (ltb v (2 + mostNodes)) (getD ws ((v - 2) * 3 + 1) 0) 0
 
 abbrev pub highOf : List ℕ → ℕ → ℕ
-highOf ws v = cond (ltb v 10242) (getD ws ((v - 2) * 3 + 2) 0) 0
+highOf ws v = cond (ltb v (2 + mostNodes)) (getD ws ((v - 2) * 3 + 2) 0) 0
 
 unfoldable pub child : List ℕ → ℕ → ℕ → ℕ → ℕ
 child ws bits h v = cond (has bits h) (highOf ws v) (lowOf ws v)

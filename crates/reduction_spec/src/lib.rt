@@ -1,4 +1,20 @@
 // Columns, cover, merging, the diagram and walks over it: definitions and their laws.
+use sheet_spec::MOST_VARIABLES;
+
+// The limits of the layer: columns at a height, nodes of a diagram, words of its node table, and a flag for each pair of columns.
+pub const MOST_COLUMNS: usize = 512;
+
+pub const MOST_NODES: usize = MOST_VARIABLES * MOST_COLUMNS;
+
+pub const NODE_WORDS: usize = MOST_NODES * 3;
+
+pub const LINKS: usize = MOST_COLUMNS * MOST_COLUMNS;
+
+pub type NodeWords = [u16; NODE_WORDS];
+
+pub type Widths = [u16; MOST_VARIABLES];
+
+pub type Links = [u8; LINKS];
 
 // A node of the diagram: its height, its child for 0 and its child for 1. Child 0 is constant 0, child 1 constant 1; node 2 stands first.
 pub struct Node {

@@ -5,6 +5,7 @@ ghost use Prim.Native.Nat.{_≤_, _<_, _+_, _*_};
 ghost use lib.ListN.{length, getD};
 ghost use Rattle.laws.specs.Lists.{tab};
 ghost use Rattle.replay.specs.Coded.{pair, saidSize, size, callsIn, readable};
+use numbers::wide;
 
 // The calls of a list that is whole.
 pub struct Counted {
@@ -15,10 +16,7 @@ pub struct Counted {
 pub fn byte_at(list: &[u8], i: usize) -> usize
     ensures { λ r. ⌜ (r ≡ getD (now (list .entry)) i 0) × (r < 256) ⌝ }
 {
-    if i < list.len() {
-        return list[i] as usize;
-    }
-    0
+    wide(numbers::byte_at(list, i))
 }
 
 // The number in the two bytes at place i.

@@ -1,15 +1,16 @@
 // The sheet layer: refusals 1 to 6 of a job and its sheet, and the table of the function.
 mod lines;
-mod numbers;
 mod order;
 mod pairs;
 mod planes;
+mod powers;
 mod records;
 
 ghost use mathlib.Core.Path.{_≡_};
 ghost use Rattle.sheet_spec.specs.Job.{job};
 ghost use Rattle.sheet_spec.specs.Refusals.{sheetRefusal};
 ghost use Rattle.sheet_spec.specs.Table.{tableAfter};
+use sheet_spec::Table;
 
 // The least of refusals 1 to 6 that the job and its sheet are given; 0 where there is none.
 pub fn refusal(n: usize, m: usize, k: usize, l: usize, order: &[u8], sheet: &[u8]) -> u8
@@ -44,7 +45,7 @@ pub fn fill_table(
     l: usize,
     order: &[u8],
     sheet: &[u8],
-    table: &mut [u8; 32768],
+    table: &mut Table,
 ) -> u8
     ensures { λ r. ⌜ r ≡ sheetRefusal (job n m k l (now (order .entry))) (now (sheet .entry)) ⌝ }
     ensures { λ r. ⌜ now (table .exit) ≡ tableAfter (job n m k l (now (order .entry))) (now (sheet .entry)) (now (table .entry)) ⌝ }

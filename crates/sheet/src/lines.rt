@@ -8,17 +8,19 @@ ghost use Rattle.sheet_spec.specs.Job.{inputsTo, outputsTo};
 ghost use Rattle.sheet_spec.specs.Table.{tableOf};
 ghost use Rattle.sheet.specs.Planes.{lineValue, lineAt, numberedField, planeOf};
 ghost use Rattle.sheet_spec.specs.Accepted.{Accepted};
-use crate::numbers::power;
-use crate::numbers::wide;
 use crate::planes::mark_high;
 use crate::planes::mark_low;
 use crate::planes::number_words;
 use crate::planes::spread;
+use crate::powers::power;
 use crate::records::load;
 use crate::records::load_byte;
+use numbers::wide;
+use sheet_spec::MOST_VARIABLES;
+use sheet_spec::Table;
 
 // The inputs of the order, lowest first.
-fn input_list(order: &[u8], list: &mut [u8; 20])
+fn input_list(order: &[u8], list: &mut [u8; MOST_VARIABLES])
     requires { do ⌜ (← ⟦order.len()⟧) ≤ 20 ⌝ }
     ensures { λ _.
         ⌜ now (list .exit)
@@ -38,7 +40,7 @@ fn input_list(order: &[u8], list: &mut [u8; 20])
 }
 
 // The outputs of the order, lowest first.
-fn output_list(order: &[u8], list: &mut [u8; 20])
+fn output_list(order: &[u8], list: &mut [u8; MOST_VARIABLES])
     requires { do ⌜ (← ⟦order.len()⟧) ≤ 20 ⌝ }
     ensures { λ _.
         ⌜ now (list .exit)
@@ -75,7 +77,7 @@ fn write_line(
     zeros: &[u8; 4096],
     ones: &[u8; 4096],
     base: usize,
-    table: &mut [u8; 32768],
+    table: &mut Table,
 )
     requires { ⌜ (count ≤ 4096) × (o < 8) × (base + count ≤ 32768) ⌝ }
     ensures { λ _.
@@ -93,10 +95,10 @@ fn write_line(
 fn write_lines(
     n: usize,
     m: usize,
-    list: &[u8; 20],
+    list: &[u8; MOST_VARIABLES],
     zeros: &[u8; 4096],
     ones: &[u8; 4096],
-    table: &mut [u8; 32768],
+    table: &mut Table,
 )
     requires { ⌜ (n ≤ 12) × (m ≤ 8) ⌝ }
     ensures { λ _.
@@ -124,7 +126,7 @@ fn number_field(
     requires { do ⌜ (n ≤ 12) × ((← ⟦order.len()⟧) ≤ 20) × ((← ⟦sheet.len()⟧) ≤ 2048) × (lo < 8) × (hi < 8) × (now numbers ≡ replicate 256 0) ⌝ }
     ensures { λ _. ⌜ now (numbers .exit) ≡ numberedField n (now (order .entry)) (now (sheet .entry)) lo hi ⌝ }
 {
-    let mut inputs = [0u8; 20];
+    let mut inputs = [0u8; MOST_VARIABLES];
     input_list(order, &mut inputs);
     let mut words = [0u16; 256];
     load(sheet, lo, hi, &mut words);
@@ -152,7 +154,7 @@ fn plane_of(
 }
 
 // The whole table.
-pub fn write(n: usize, m: usize, order: &[u8], sheet: &[u8], table: &mut [u8; 32768])
+pub fn write(n: usize, m: usize, order: &[u8], sheet: &[u8], table: &mut Table)
     requires { ⌜ Accepted n m (now order) (now sheet) ⌝ }
     ensures { λ _. ⌜ now (table .exit) ≡ sets (now (table .entry)) 0 (tableOf n m (now (order .entry)) (now (sheet .entry))) ⌝ }
 {
@@ -164,7 +166,7 @@ pub fn write(n: usize, m: usize, order: &[u8], sheet: &[u8], table: &mut [u8; 32
     plane_of(&masks, &values, sheet, 4, &mut zeros);
     let mut ones = [0u8; 4096];
     plane_of(&masks, &values, sheet, 5, &mut ones);
-    let mut list = [0u8; 20];
+    let mut list = [0u8; MOST_VARIABLES];
     output_list(order, &mut list);
     write_lines(n, m, &list, &zeros, &ones, table);
 }

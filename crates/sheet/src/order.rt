@@ -2,15 +2,18 @@
 ghost use mathlib.Core.Path.{_≡_};
 ghost use Prim.Native.Nat.{_≤_, _<_, _+_};
 ghost use Rattle.sheet_spec.specs.Refusals.{outOfRange, times, eachOnce, notEachOnce, placeOf};
-use crate::numbers::wide;
+use numbers::wide;
+use sheet_spec::MOST_INPUTS;
+use sheet_spec::MOST_OUTPUTS;
+use stored_spec::Cell;
 
 pub fn out_of_range(n: usize, m: usize, k: usize, l: usize) -> bool
     ensures { λ r. ⌜ r ≡ outOfRange n m k l ⌝ }
 {
-    let inputs = (1 <= n) & (n <= 12);
-    let outputs = (1 <= m) & (m <= 8);
-    let cell_inputs = (2 <= k) & (k <= 12);
-    let cell_outputs = (1 <= l) & (l <= 8);
+    let inputs = (1 <= n) & (n <= MOST_INPUTS);
+    let outputs = (1 <= m) & (m <= MOST_OUTPUTS);
+    let cell_inputs = (2 <= k) & (k <= Cell::MAX_INPUTS);
+    let cell_outputs = (1 <= l) & (l <= Cell::MAX_OUTPUTS);
     !(inputs & outputs & cell_inputs & cell_outputs)
 }
 

@@ -3,11 +3,11 @@ ghost use mathlib.Core.Path.{_≡_};
 ghost use Prim.Native.Nat.{_≤_, _<_, _/_, _^_};
 ghost use Rattle.laws.specs.Tests.{any};
 ghost use Rattle.sheet.specs.Pairs.{hitIn, anyHit, belowMask, crosses, anyCrosses};
-use crate::numbers::power;
-use crate::numbers::wide;
 use crate::order::place_of;
+use crate::powers::power;
 use crate::records::load;
 use crate::records::pair;
+use numbers::wide;
 
 // Whether a record before r agrees with it on the inputs that both test, and forces an output the other way.
 fn hit_before(

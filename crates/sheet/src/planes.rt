@@ -8,8 +8,9 @@ ghost use Rattle.laws.specs.Lists.{puts, putsAt};
 ghost use Rattle.laws.specs.Bits.{bit};
 ghost use Rattle.sheet.specs.Planes.{added, highForce, lowForce, highAdded, lowAdded, numberTo, CountsUp};
 ghost use Rattle.laws.specs.Bits.{marks};
-use crate::numbers::wide;
-use crate::numbers::wide16;
+use numbers::wide;
+use numbers::wide16;
+use sheet_spec::MOST_VARIABLES;
 
 // f where the number i agrees with the values v on the mask k, else 0.
 fn added_at(k: u8, v: u8, f: u8, i: u8) -> u8
@@ -209,7 +210,12 @@ fn move_bit(from: usize, k: usize, words: &[u16; 256], numbers: &mut [u16; 256])
 }
 
 // Each word as a number: bit k is the word's bit for input k of the list.
-pub fn number_words(inputs: &[u8; 20], n: usize, words: &[u16; 256], numbers: &mut [u16; 256])
+pub fn number_words(
+    inputs: &[u8; MOST_VARIABLES],
+    n: usize,
+    words: &[u16; 256],
+    numbers: &mut [u16; 256],
+)
     requires { ⌜ n ≤ 12 ⌝ }
     ensures { λ _.
         ⌜ now (numbers .exit)

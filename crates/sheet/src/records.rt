@@ -5,8 +5,9 @@ ghost use Rattle.laws.specs.Lists.{puts};
 ghost use Rattle.sheet_spec.specs.Records.{recordCount, byte};
 ghost use Rattle.sheet_spec.specs.Refusals.{refuse3, malformed, anyMalformed};
 ghost use Rattle.sheet.specs.Pairs.{pairOf};
-use crate::numbers::power;
-use crate::numbers::wide;
+use crate::powers::power;
+use numbers::wide;
+use sheet_spec::SHEET_BYTES;
 
 pub fn length_refused(sheet: &[u8]) -> bool
     ensures { λ r. ⌜ r ≡ refuse3 (now (sheet .entry)) ⌝ }
@@ -14,7 +15,7 @@ pub fn length_refused(sheet: &[u8]) -> bool
     if sheet.len() % 8 != 0 {
         return true;
     }
-    2048 < sheet.len()
+    SHEET_BYTES < sheet.len()
 }
 
 // Bytes lo and hi of record r as one number, lo lowest.

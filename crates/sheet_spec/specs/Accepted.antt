@@ -5,11 +5,12 @@ use Prim.Native.Nat.{ℕ, _≤_}
 use mathlib.Core.Bool.{false}
 use mathlib.Core.List.{List}
 use Rattle.sheet_spec.specs.Refusals.{notEachOnce, refuse3, anyMalformed}
+use Rattle.sheet_spec.specs.Limits.{mostInputs, mostOutputs}
 
 -- what the code that writes the table relies on
 pub record Accepted (n m : ℕ) (order s : List ℕ) : Type 0 where
-  pub inputs : n ≤ 12
-  pub outputs : m ≤ 8
+  pub inputs : n ≤ mostInputs
+  pub outputs : m ≤ mostOutputs
   pub order-whole : notEachOnce n m order ≡ false
   pub length-good : refuse3 s ≡ false
   pub records-good : anyMalformed n m s ≡ false

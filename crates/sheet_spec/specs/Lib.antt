@@ -1,4 +1,5 @@
 -- Document 01's sheet, job and refusals 1 to 6, in the order to read them.
+pub mod Limits
 pub mod Records
 pub mod Job
 pub mod Values

@@ -7,13 +7,14 @@ use lib.Dec.{eqb, ltb}
 use lib.ListN.{length, getD}
 use lib.Bits.{bitAnd}
 use Rattle.laws.specs.Tests.{any, every, count, least, within}
+use Rattle.sheet_spec.specs.Limits.{mostInputs, mostOutputs, largestInputs, largestOutputs, sheetBytes}
 use Rattle.sheet_spec.specs.Records.{recordCount, byte, mask, values, zeros, ones, matches, forces0, forces1}
 use Rattle.sheet_spec.specs.Job.{Job, t, outputByte}
 use Rattle.sheet_spec.specs.Values.{named}
 
 -- 1: n, m, K or L out of range
 unfoldable pub outOfRange : ℕ → ℕ → ℕ → ℕ → Bool
-outOfRange n m k l = not (within 1 12 n && within 1 8 m && within 2 12 k && within 1 8 l)
+outOfRange n m k l = not (within 1 mostInputs n && within 1 mostOutputs m && within 2 largestInputs k && within 1 largestOutputs l)
 
 unfoldable pub refuse1 : Job → Bool
 refuse1 j = outOfRange (j .n) (j .m) (j .K) (j .L)
@@ -35,7 +36,7 @@ refuse2 j = notEachOnce (j .n) (j .m) (j .order)
 
 -- 3: length not a multiple of 8, or over 2,048
 unfoldable pub refuse3 : List ℕ → Bool
-refuse3 s = not (eqb (length s % 8) 0) || ltb 2048 (length s)
+refuse3 s = not (eqb (length s % 8) 0) || ltb sheetBytes (length s)
 
 -- of record r: a bit outside n or m, a value bit outside the mask, one output in bytes 4 and 5, or 6 and 7 not zero
 unfoldable pub malformed : ℕ → ℕ → List ℕ → ℕ → Bool

@@ -9,7 +9,10 @@ ghost use Rattle.sheet_spec.specs.Job.{isInput};
 ghost use Rattle.stored_spec.specs.StoredForm.{recordCount, variable, cutByte, railByte, recordFormed, cellCount, cellFormed};
 ghost use Rattle.stored_spec.specs.StoredForm.{recordsFormed, rowsFormed, rowCount, wellFormed};
 use crate::casts::power;
-use crate::casts::wide;
+use numbers::wide;
+use sheet_spec::MOST_VARIABLES;
+use stored_spec::Cell;
+use stored_spec::MOST_ROWS;
 
 // No record before record i has its variable.
 fn first_of(records: &[u8], i: usize) -> bool
@@ -62,7 +65,7 @@ fn shaped(records: &[u8]) -> bool
         && within 1 20 (recordCount (now (records .entry)))) ⌝ }
 {
     let count = records.len() / 4;
-    (records.len() == count * 4) & ((1 <= count) & (count <= 20))
+    (records.len() == count * 4) & ((1 <= count) & (count <= MOST_VARIABLES))
 }
 
 // The last record has a cut with 0 rails.
@@ -112,7 +115,7 @@ fn cell_fits(cut: usize, inputs: usize, outputs: usize) -> bool
     ensures { λ r. ⌜ r ≡ cond (eqb cut 1) (leb inputs 12 && leb outputs 8) true ⌝ }
 {
     if cut == 1 {
-        return (inputs <= 12) & (outputs <= 8);
+        return (inputs <= Cell::MAX_INPUTS) & (outputs <= Cell::MAX_OUTPUTS);
     }
     true
 }
@@ -190,7 +193,7 @@ fn contents_formed(records: &[u8]) -> bool
     let last = last_cut(records);
     let fit = cells_fit(records);
     if fit {
-        return each & last & (rows_of(records) <= 32768);
+        return each & last & (rows_of(records) <= MOST_ROWS);
     }
     false
 }

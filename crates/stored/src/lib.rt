@@ -11,13 +11,14 @@ ghost use Rattle.stored.specs.Places.{cellPlace};
 ghost use Rattle.stored.specs.Reads.{rowsCounted, cellRails, rowRead, outputsRead};
 ghost use Rattle.stored.specs.RecordArrays.{cascadeFrom, readAs};
 ghost use Rattle.stored_spec.specs.ReadWrite.{read, writtenAs, write};
+use sheet_spec::MOST_VARIABLES;
 
 // The records of a cascade, top first: of each its variable, whether a cut lies directly below, and the rails there.
 pub struct StoredRecords {
     pub count: u8,
-    pub variables: [u8; 20],
-    pub cuts: [bool; 20],
-    pub rails: [u8; 20],
+    pub variables: [u8; MOST_VARIABLES],
+    pub cuts: [bool; MOST_VARIABLES],
+    pub rails: [u8; MOST_VARIABLES],
 }
 
 // What reading answers: 12, or 0 and the records.

@@ -7,11 +7,11 @@ ghost use Rattle.laws.specs.Tests.{every};
 ghost use Rattle.stored_spec.specs.StoredForm.{recordsFormed, cellCount, cellFormed, rowsBefore};
 ghost use Rattle.stored.specs.Places.{noPlace, cellPlace};
 use crate::CellPlace;
-use crate::casts::wide;
 use crate::formed::after;
 use crate::formed::cell_rows;
 use crate::formed::inputs_with;
 use crate::formed::records_formed;
+use numbers::wide;
 
 fn no_place() -> CellPlace
     ensures { λ r. ⌜ r ≡ noPlace ⌝ }

@@ -13,8 +13,10 @@ ghost use Rattle.stored_spec.specs.ReadWrite.{recordBytes, cascadeOf, read, wri
 use crate::ReadRecords;
 use crate::StoredRecords;
 use crate::casts::narrow;
-use crate::casts::wide;
 use crate::formed::formed;
+use numbers::wide;
+use sheet_spec::MOST_VARIABLES;
+use stored_spec::MOST_RECORD_BYTES;
 
 // The parts of well formed records.
 fn take_apart(records: &[u8]) -> StoredRecords
@@ -22,9 +24,9 @@ fn take_apart(records: &[u8]) -> StoredRecords
     ensures { λ r. ⌜ r ≡ structureOf (cascadeOf (now (records .entry)) [] .records) ⌝ }
 {
     let count = records.len() / 4;
-    let mut variables = [0u8; 20];
-    let mut cuts = [false; 20];
-    let mut rails = [0u8; 20];
+    let mut variables = [0u8; MOST_VARIABLES];
+    let mut cuts = [false; MOST_VARIABLES];
+    let mut rails = [0u8; MOST_VARIABLES];
     let mut i = 0;
     while i < count {
         variables[i] = records[i * 4];
@@ -54,9 +56,9 @@ pub fn read_records(records: &[u8], rows: &[u8]) -> ReadRecords
         refusal: 12,
         records: StoredRecords {
             count: 0,
-            variables: [0u8; 20],
-            cuts: [false; 20],
-            rails: [0u8; 20],
+            variables: [0u8; MOST_VARIABLES],
+            cuts: [false; MOST_VARIABLES],
+            rails: [0u8; MOST_VARIABLES],
         },
     }
 }
@@ -71,7 +73,7 @@ fn flag_of(b: bool) -> u8
 }
 
 // The bytes of up to 20 records.
-fn bytes_of(from: StoredRecords, bytes: &mut [u8; 80])
+fn bytes_of(from: StoredRecords, bytes: &mut [u8; MOST_RECORD_BYTES])
     requires { ⌜ from .count ≤ 20 ⌝ }
     ensures { λ _. ⌜ now (bytes .exit) ≡ sets (now (bytes .entry)) 0 (recordBytes (recordsOf from)) ⌝ }
 {
@@ -129,7 +131,7 @@ pub fn write_records(from: StoredRecords, bytes: &[u8], records: &mut [u8], rows
     if count > 20 {
         return 12;
     }
-    let mut stored = [0u8; 80];
+    let mut stored = [0u8; MOST_RECORD_BYTES];
     bytes_of(from, &mut stored);
     write_bytes(&stored[..count * 4], bytes, records, rows)
 }

@@ -11,12 +11,14 @@ ghost use Rattle.stored.specs.Reads.{hasCell, cellsFit, rowsCounted, cel
 use crate::CellRails;
 use crate::casts::narrow;
 use crate::casts::power;
-use crate::casts::wide;
 use crate::formed::after;
 use crate::formed::cells_fit;
 use crate::formed::records_formed;
 use crate::formed::rows_of;
 use crate::places::find_place;
+use numbers::wide;
+use numbers::wide16;
+use stored_spec::MOST_RECORD_BYTES;
 
 // How many cells any records have.
 pub fn count_cells(records: &[u8]) -> usize
@@ -37,7 +39,7 @@ pub fn count_cells(records: &[u8]) -> usize
 fn few_fit(records: &[u8]) -> bool
     ensures { λ r. ⌜ r ≡ cellsFit (now (records .entry)) ⌝ }
 {
-    if records.len() <= 80 {
+    if records.len() <= MOST_RECORD_BYTES {
         return cells_fit(records);
     }
     false
@@ -64,7 +66,7 @@ fn has_cell(records: &[u8], k: usize) -> bool
 fn has_rails(records: &[u8], k: usize) -> bool
     ensures { λ r. ⌜ r ≡ (leb (length (now (records .entry))) 80 && ltb k (cellCount (now (records .entry)))) ⌝ }
 {
-    (records.len() <= 80) & (k < count_cells(records))
+    (records.len() <= MOST_RECORD_BYTES) & (k < count_cells(records))
 }
 
 // The rows of the records can be counted, and there is a cell k.
@@ -113,12 +115,6 @@ pub fn rails_of(records: &[u8], k: usize) -> CellRails
         return find_rails(records, k);
     }
     CellRails { upper: 0, lower: 0 }
-}
-
-fn wide_word(x: u16) -> usize
-    ensures { λ r. ⌜ (r ≡ x) × (r < 65536) ⌝ }
-{
-    x as usize
 }
 
 // The bit v of a word.
@@ -181,7 +177,7 @@ pub fn row_of(records: &[u8], k: usize, rail: u16, word: u16) -> usize
     ensures { λ r. ⌜ r ≡ rowRead (now (records .entry)) k rail word ⌝ }
 {
     if has_rows(records, k) {
-        return find_row(records, k, wide_word(rail), wide_word(word));
+        return find_row(records, k, wide16(rail), wide16(word));
     }
     0
 }

@@ -4,6 +4,7 @@ use Prim.Native.Nat.{ℕ, _+_, _*_, _^_}
 use mathlib.Core.Bool.{Bool, true, cond, _&&_}
 use mathlib.Core.List.{List, [], _∷_}
 use lib.Dec.{leb}
+use Rattle.sheet_spec.specs.Limits.{largestInputs, largestOutputs}
 pub use Rattle.stored_spec.specs.declared.Cell.{Cell}
 
 abbrev pub cell : ℕ → ℕ → Cell
@@ -22,10 +23,10 @@ bits c = rows c * c .outputs
 
 -- what the code answers of any cell: those of a cell that is not larger than the largest, else 0
 unfoldable pub usableRows : Cell → ℕ
-usableRows c = cond (fits 12 8 c) (rows c) 0
+usableRows c = cond (fits largestInputs largestOutputs c) (rows c) 0
 
 unfoldable pub usableBits : Cell → ℕ
-usableBits c = cond (fits 12 8 c) (bits c) 0
+usableBits c = cond (fits largestInputs largestOutputs c) (bits c) 0
 
 -- of several cells: each fits; the rows; the bits
 unfoldable pub allFit : ℕ → ℕ → List Cell → Bool

@@ -5,6 +5,7 @@ use Prim.Native.Nat.{ℕ, zero, suc, _+_, _*_, _/_, _%_, _^_}
 use mathlib.Core.List.{List, [], _∷_}
 use lib.ListN.{length, getD, set, replicate}
 use Rattle.laws.specs.Bits.{bit}
+use Rattle.sheet_spec.specs.Limits.{mostOutputs}
 use Rattle.stored_spec.specs.StoredForm.{StoredCell, cellAt, rowsBefore}
 
 -- row address: the rail word r, then the cell's inputs in the word w, topmost variable most significant
@@ -30,7 +31,7 @@ unfoldable pub railAfter : StoredCell → ℕ → ℕ
 railAfter c x = x % 2 ^ c .lower
 
 abbrev pub unset : List ℕ
-unset = replicate 8 2
+unset = replicate mostOutputs 2
 
 -- a run over the word w: the rail word and the outputs before cell k
 pub record Running : Type 0 where

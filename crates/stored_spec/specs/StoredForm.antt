@@ -10,6 +10,7 @@ use Rattle.sheet_spec.specs.Job.{Job, t, varAt, isInput}
 use Rattle.stored_spec.specs.Rails.{railsAt}
 use lib.ListN.{length, getD}
 use Rattle.laws.specs.Tests.{every, sum, within}
+use Rattle.sheet_spec.specs.Limits.{mostVariables, largestInputs, largestOutputs, mostRows}
 use Rattle.stored_spec.specs.Cells.{Cell, cell, rows, fits}
 
 abbrev pub member : ℕ → List ℕ → Bool
@@ -115,16 +116,16 @@ recordFormed R i =
 
 -- cells of at most 12 inputs and 8 outputs
 unfoldable pub cellFormed : List ℕ → ℕ → Bool
-cellFormed R k = fits 12 8 (sizeOf (cellAt R k))
+cellFormed R k = fits largestInputs largestOutputs (sizeOf (cellAt R k))
 
 -- the records are well formed: 1 to 20 of them, a last cut with 0 rails, rows at most 32,768
 unfoldable pub recordsFormed : List ℕ → Bool
 recordsFormed R =
-    eqb (length R) (recordCount R * 4) && within 1 20 (recordCount R) && every (recordCount R) (recordFormed R)
+    eqb (length R) (recordCount R * 4) && within 1 mostVariables (recordCount R) && every (recordCount R) (recordFormed R)
     && eqb (cutByte R (recordCount R - 1)) 1
     && eqb (railByte R (recordCount R - 1)) 0
     && every (cellCount R) (cellFormed R)
-    && leb (rowCount R) 32768
+    && leb (rowCount R) mostRows
 
 -- each row of cell k is below 2^outputs
 unfoldable pub rowsFormed : List ℕ → List ℕ → ℕ → Bool

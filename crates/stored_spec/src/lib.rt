@@ -1,6 +1,12 @@
 // Cells and the stored form of cascades: definitions and their laws.
 ghost use mathlib.Core.Path.{_≡_};
 ghost use Rattle.stored_spec.specs.Cells.{fits, usableRows, usableBits};
+use sheet_spec::MOST_VARIABLES;
+
+// The rows that count as usable, and the bytes of the longest records.
+pub const MOST_ROWS: usize = 32768;
+
+pub const MOST_RECORD_BYTES: usize = MOST_VARIABLES * 4;
 
 // A cell of a cascade by the number of its inputs and of its outputs, rails counted.
 pub struct Cell {

@@ -1,5 +1,5 @@
 // Walks over the diagram, and the comparison of two columns by it.
-mod casts;
+pub mod nodes;
 mod walks;
 
 ghost use mathlib.Core.Path.{_≡_};
@@ -11,17 +11,18 @@ use crate::walks::descend;
 use crate::walks::less;
 use crate::walks::same_nodes;
 use crate::walks::walk_to;
+use reduction_spec::NodeWords;
 use reduction_spec::Reached;
 
 // Where a walk from the node at the height ends; bit g of bits is the value of the variable at height g + 1.
-pub fn walk(words: &[u16; 30720], bits: u32, height: u8, node: u16) -> u16
+pub fn walk(words: &NodeWords, bits: u32, height: u8, node: u16) -> u16
     ensures { λ r. ⌜ r ≡ walk (now (words .entry)) bits height node ⌝ }
 {
     walk_to(words, bits, height, node)
 }
 
 // The columns of the nodes v and u at one height are the same.
-pub fn same_columns(words: &[u16; 30720], height: u8, v: u16, u: u16) -> bool
+pub fn same_columns(words: &NodeWords, height: u8, v: u16, u: u16) -> bool
     ensures { λ r. ⌜ r ≡ sameColumns (now (words .entry)) height v u ⌝ }
 {
     if height <= 20 {
@@ -31,7 +32,7 @@ pub fn same_columns(words: &[u16; 30720], height: u8, v: u16, u: u16) -> bool
 }
 
 // The columns of the nodes v and u at one height are compatible.
-pub fn compatible_columns(words: &[u16; 30720], height: u8, v: u16, u: u16) -> bool
+pub fn compatible_columns(words: &NodeWords, height: u8, v: u16, u: u16) -> bool
     ensures { λ r. ⌜ r ≡ compatibleColumns (now (words .entry)) height v u ⌝ }
 {
     if height <= 20 {
@@ -42,7 +43,7 @@ pub fn compatible_columns(words: &[u16; 30720], height: u8, v: u16, u: u16) -> b
 
 // From the node at the cut top down to the cut bottom; inputs are the values of the count inputs between, topmost most significant.
 pub fn descent(
-    words: &[u16; 30720],
+    words: &NodeWords,
     order: &[u8],
     top: u8,
     bottom: u8,

@@ -1,15 +1,16 @@
 // Walks over the node words, and the comparison of two columns: recursive, measured by the height, down to the constant children.
 ghost use mathlib.Core.Path.{_≡_};
-ghost use Prim.Native.Nat.{suc, _≤_, _<_, _+_, _-_, _^_};
-ghost use lib.ListN.{length, getD};
+ghost use Prim.Native.Nat.{_≤_, _<_, _-_, _^_};
 ghost use Rattle.laws.specs.Bits.{has};
-ghost use Rattle.sheet_spec.specs.Job.{isInput};
-ghost use Rattle.reduction_spec.specs.Walk.{lowOf, highOf, child, walk};
+ghost use Rattle.reduction_spec.specs.Walk.{child, walk};
 ghost use Rattle.reduction_spec.specs.Compare.{neitherZero, sameNodes, compatibleNodes};
 ghost use Rattle.reduction_spec.specs.Descent.{descend};
-use crate::casts::long16;
-use crate::casts::wide8;
-use crate::casts::wide16;
+use crate::nodes::high_of;
+use crate::nodes::is_input_at;
+use crate::nodes::low_of;
+use numbers::long16;
+use numbers::wide;
+use reduction_spec::NodeWords;
 use reduction_spec::Reached;
 
 // a - b, or 0 where b is more.
@@ -20,27 +21,6 @@ pub fn less(a: u8, b: u8) -> u8
         return 0;
     }
     a - b
-}
-
-// The child of node v for 0; for 1.
-fn low_of(words: &[u16; 30720], v: u16) -> u16
-    requires { ⌜ 2 ≤ v ⌝ }
-    ensures { λ r. ⌜ r ≡ lowOf (now (words .entry)) v ⌝ }
-{
-    if v < 10242 {
-        return words[(wide16(v) - 2) * 3 + 1];
-    }
-    0
-}
-
-fn high_of(words: &[u16; 30720], v: u16) -> u16
-    requires { ⌜ 2 ≤ v ⌝ }
-    ensures { λ r. ⌜ r ≡ highOf (now (words .entry)) v ⌝ }
-{
-    if v < 10242 {
-        return words[(wide16(v) - 2) * 3 + 2];
-    }
-    0
 }
 
 // Bit h of bits is 1.
@@ -54,7 +34,7 @@ fn bit_at(bits: u32, h: u8) -> bool
 }
 
 // The child of node v that bit h chooses.
-fn child_of(words: &[u16; 30720], bits: u32, h: u8, v: u16) -> u16
+fn child_of(words: &NodeWords, bits: u32, h: u8, v: u16) -> u16
     requires { ⌜ 2 ≤ v ⌝ }
     ensures { λ r. ⌜ r ≡ child (now (words .entry)) bits h v ⌝ }
 {
@@ -65,7 +45,7 @@ fn child_of(words: &[u16; 30720], bits: u32, h: u8, v: u16) -> u16
 }
 
 // Where a walk from the node v at height h ends.
-pub fn walk_to(words: &[u16; 30720], bits: u32, h: u8, v: u16) -> u16
+pub fn walk_to(words: &NodeWords, bits: u32, h: u8, v: u16) -> u16
     ensures { λ r. ⌜ r ≡ walk (now (words .entry)) bits h v ⌝ }
 {
     if h == 0 {
@@ -78,7 +58,7 @@ pub fn walk_to(words: &[u16; 30720], bits: u32, h: u8, v: u16) -> u16
 }
 
 // The nodes v and u at height h have the same column.
-pub fn same_nodes(words: &[u16; 30720], h: u8, v: u16, u: u16) -> bool
+pub fn same_nodes(words: &NodeWords, h: u8, v: u16, u: u16) -> bool
     ensures { λ r. ⌜ r ≡ sameNodes (now (words .entry)) h v u ⌝ }
 {
     if v == u {
@@ -114,7 +94,7 @@ fn is_open(v: u16, u: u16) -> bool
 }
 
 // The nodes v and u at height h have compatible columns.
-pub fn compatible_nodes(words: &[u16; 30720], h: u8, v: u16, u: u16) -> bool
+pub fn compatible_nodes(words: &NodeWords, h: u8, v: u16, u: u16) -> bool
     ensures { λ r. ⌜ r ≡ compatibleNodes (now (words .entry)) h v u ⌝ }
 {
     if h == 0 {
@@ -148,23 +128,9 @@ pub fn compatible_nodes(words: &[u16; 30720], h: u8, v: u16, u: u16) -> bool
     false
 }
 
-// The variable at height h + 1 of an order is an input.
-fn is_input_at(order: &[u8], h: usize) -> bool
-    ensures { λ r. ⌜ r ≡ isInput (getD (now (order .entry)) (length (now (order .entry)) - suc h) 0) ⌝ }
-{
-    let t = order.len();
-    if t == 0 {
-        return true;
-    }
-    if h < t {
-        return order[t - 1 - h] < 128;
-    }
-    order[0] < 128
-}
-
 // k heights down from the node v at height bottom + k; o are the outputs met so far.
 pub fn descend(
-    words: &[u16; 30720],
+    words: &NodeWords,
     order: &[u8],
     bottom: u8,
     k: u8,
@@ -188,7 +154,7 @@ pub fn descend(
             outputs: o,
         };
     }
-    if is_input_at(order, wide8(bottom) + wide8(k) - 1) {
+    if is_input_at(order, wide(bottom) + wide(k) - 1) {
         let left = less(count, 1);
         let next = child_of(words, long16(x), left, v);
         return descend(words, order, bottom, k - 1, next, x, left, o);

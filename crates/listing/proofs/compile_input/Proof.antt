@@ -7,7 +7,7 @@ use Rattle.listing.proofs.compile_input.Lts as lts
 use Rattle.cutting.specs.Outcome.{outcomeOf}
 use Rattle.listing.proofs.InputParts.{outcome-same}
 use Rattle.cutting.proofs.compile.Reads as compile-reads
-use Rattle.listing.proofs.least.Reads as least-reads
+use Rattle.numbers.proofs.least.Reads as least-reads
 use Rattle.listing.proofs.number.Reads as number-reads
 
 -- src/lib.rt:46:9

@@ -8,7 +8,7 @@ use Rattle.listing.proofs.list.Lts as lts
 use Rattle.io.proofs.write_all.Reads as write-all-reads
 use Rattle.listing.proofs.compile_input.Reads as compile-input-reads
 use Rattle.listing.proofs.end_line.Reads as end-line-reads
-use Rattle.listing.proofs.least.Reads as least-reads
+use Rattle.numbers.proofs.least.Reads as least-reads
 use Rattle.listing.proofs.node_memory.Reads as node-memory-reads
 use Rattle.listing.proofs.number.Reads as number-reads
 use Rattle.listing.proofs.print_cells.Reads as print-cells-reads
@@ -16,7 +16,7 @@ use Rattle.listing.proofs.print_heights.Reads as print-heights-reads
 use Rattle.listing.proofs.print_next.Reads as print-next-reads
 use Rattle.listing.proofs.record_memory.Reads as record-memory-reads
 use Rattle.listing.proofs.row_memory.Reads as row-memory-reads
-use Rattle.listing.proofs.wide.Reads as wide-reads
+use Rattle.numbers.proofs.wide.Reads as wide-reads
 
 -- src/lib.rt:140:21
 node-memory-requires : tie.Need-node-memory-requires

@@ -5,9 +5,9 @@ use Rattle.listing.proofs.list_each.Statement.{statement}
 use Rattle.listing.proofs.list_each.Tie as tie
 use Rattle.listing.proofs.list_each.Reads as reads
 use Rattle.listing.proofs.list_each.Lts as lts
-use Rattle.listing.proofs.least.Reads as least-reads
+use Rattle.numbers.proofs.least.Reads as least-reads
 use Rattle.listing.proofs.list.Reads as list-reads
-use Rattle.listing.proofs.wide.Reads as wide-reads
+use Rattle.numbers.proofs.wide.Reads as wide-reads
 
 abbrev Inv-loop : tie.InvT-loop
 Inv-loop bytes at₀ at = at ≤ length bytes

@@ -7,7 +7,7 @@ use Rattle.listing.proofs.number.Statement.{statement}
 use Rattle.listing.proofs.number.Tie as tie
 use Rattle.listing.proofs.number.Reads as reads
 use Rattle.listing.proofs.number.Lts as lts
-use Rattle.listing.proofs.wide.Reads as wide-reads
+use Rattle.numbers.proofs.wide.Reads as wide-reads
 
 -- src/lib.rt:15:21
 shared-slice-read-wide : tie.Need-shared-slice-read-wide

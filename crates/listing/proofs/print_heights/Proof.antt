@@ -4,7 +4,7 @@ use Rattle.listing.proofs.print_heights.Statement.{statement}
 use Rattle.listing.proofs.print_heights.Tie as tie
 use Rattle.listing.proofs.print_heights.Reads as reads
 use Rattle.listing.proofs.print_heights.Lts as lts
-use Rattle.listing.proofs.least.Reads as least-reads
+use Rattle.numbers.proofs.least.Reads as least-reads
 use Rattle.listing.proofs.print_height.Reads as print-height-reads
 
 abbrev Inv-loop : tie.InvT-loop

@@ -5,9 +5,9 @@ use Rattle.listing.proofs.print_rows.Statement.{statement}
 use Rattle.listing.proofs.print_rows.Tie as tie
 use Rattle.listing.proofs.print_rows.Reads as reads
 use Rattle.listing.proofs.print_rows.Lts as lts
-use Rattle.listing.proofs.least.Reads as least-reads
+use Rattle.numbers.proofs.least.Reads as least-reads
 use Rattle.listing.proofs.print_next.Reads as print-next-reads
-use Rattle.listing.proofs.wide.Reads as wide-reads
+use Rattle.numbers.proofs.wide.Reads as wide-reads
 
 abbrev Inv-loop : tie.InvT-loop
 Inv-loop rows at end last i₀ i = last ≤ length rows

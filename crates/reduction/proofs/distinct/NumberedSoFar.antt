@@ -45,7 +45,7 @@ module _ (R : ℕ → ℕ → Bool) where
       (λ l. let a = firsts-rise m n (omega arith) in let b = firsts-more n in omega arith)
 
 -- what is kept when the columns below q are numbered: how many are different, the first of each, and its key
-pub record Held (R : ℕ → ℕ → Bool) (K : ℕ → ℕ) (q count : ℕ) (keys kept : List ℕ) : Type 0 where
+pub record SoFar (R : ℕ → ℕ → Bool) (K : ℕ → ℕ) (q count : ℕ) (keys kept : List ℕ) : Type 0 where
   pub few : count ≤ 512
   pub many : count ≡ length (firstsOf R q)
   pub key-length : length keys ≡ 512
@@ -55,9 +55,9 @@ pub record Held (R : ℕ → ℕ → Bool) (K : ℕ → ℕ) (q count : ℕ) (ke
   pub below : (c : ℕ) → c < count → getD (firstsOf R q) c 0 < q
 
 module _ (R : ℕ → ℕ → Bool) (K : ℕ → ℕ) where
-  pub held-none : Held R K 0 0 (replicate 512 0) (replicate 512 0)
+  pub so-far-none : SoFar R K 0 0 (replicate 512 0) (replicate 512 0)
   unfolding firstsOf
-  held-none =
+  so-far-none =
       record {
         few = omega arith;
         many = refl;
@@ -68,13 +68,13 @@ module _ (R : ℕ → ℕ → Bool) (K : ℕ → ℕ) where
         below = λ c l. absurd (not-suc-le-zero l);
       }
 
-  module _ (q count : ℕ) (keys kept : List ℕ) (h : Held R K q count keys kept) (c : ℕ) (at : c ≡ indexIn R (firstsOf R q) q) where
-    held-le : c ≤ count
-    held-le = omega (arith, index-most R (firstsOf R q) q, h .many)
+  module _ (q count : ℕ) (keys kept : List ℕ) (h : SoFar R K q count keys kept) (c : ℕ) (at : c ≡ indexIn R (firstsOf R q) q) where
+    so-far-le : c ≤ count
+    so-far-le = omega (arith, index-most R (firstsOf R q) q, h .many)
 
-    held-old : (c ≡ count → ⊥) → Held R K (q + 1) count keys kept
-    held-old differ =
-        let less : c < count = let l = held-le in by-less c count (λ k. k) (λ k. absurd (differ (omega arith))) in
+    so-far-old : (c ≡ count → ⊥) → SoFar R K (q + 1) count keys kept
+    so-far-old differ =
+        let less : c < count = let l = so-far-le in by-less c count (λ k. k) (λ k. absurd (differ (omega arith))) in
         let same : firstsOf R (q + 1) ≡ firstsOf R q = ap (firstsOf R) (add-one q) ∙ firsts-old R q (omega (arith, h .many)) in
         record {
           few = h .few;
@@ -86,8 +86,8 @@ module _ (R : ℕ → ℕ → Bool) (K : ℕ → ℕ) where
           below = λ d l. rw same (let k = h .below d l in omega arith);
         }
 
-    held-new : c ≡ count → c < 512 → Held R K (q + 1) (count + 1) (set keys c (K q)) (set kept c q)
-    held-new e small =
+    so-far-new : c ≡ count → c < 512 → SoFar R K (q + 1) (count + 1) (set keys c (K q)) (set kept c q)
+    so-far-new e small =
         let ps = firstsOf R q in
         let n : length ps ≡ c = sym (e ∙ h .many) in
         let more : firstsOf R (q + 1) ≡ ps ++ (q ∷ []) = ap (firstsOf R) (add-one q) ∙ firsts-new R q (omega arith) in
@@ -114,49 +114,49 @@ module _ (R : ℕ → ℕ → Bool) (K : ℕ → ℕ) where
         }
 
     -- column q is kept where it is new
-    pub held-next : (k m : ℕ) (ks ps : List ℕ) → c < 512 → k ≡ K q → m ≡ cond (eqb c count) (count + 1) count → ks ≡ cond (eqb c count) (set keys c k) keys
-        → ps ≡ cond (eqb c count) (set kept c q) kept → Held R K (q + 1) m ks ps
-    held-next k m ks ps small ek em eks eps =
-        by-test (eqb c count) (λ t. rw (em, eks, eps, ek, t) (held-new (eqb-true c count t) small)) (λ t. rw (em, eks, eps, t) (held-old (eqb-false c count t)))
+    pub so-far-next : (k m : ℕ) (ks ps : List ℕ) → c < 512 → k ≡ K q → m ≡ cond (eqb c count) (count + 1) count → ks ≡ cond (eqb c count) (set keys c k) keys
+        → ps ≡ cond (eqb c count) (set kept c q) kept → SoFar R K (q + 1) m ks ps
+    so-far-next k m ks ps small ek em eks eps =
+        by-test (eqb c count) (λ t. rw (em, eks, eps, ek, t) (so-far-new (eqb-true c count t) small)) (λ t. rw (em, eks, eps, t) (so-far-old (eqb-false c count t)))
 
-    pub held-small : c ≤ 512
-    held-small = let l = held-le in let k = h .few in omega arith
+    pub so-far-small : c ≤ 512
+    so-far-small = let l = so-far-le in let k = h .few in omega arith
 
-    pub held-room : (c ≡ 512 → ⊥) → c < 512
-    held-room differ = let l = held-small in by-less c 512 (λ k. k) (λ k. absurd (differ (omega arith)))
+    pub so-far-room : (c ≡ 512 → ⊥) → c < 512
+    so-far-room differ = let l = so-far-small in by-less c 512 (λ k. k) (λ k. absurd (differ (omega arith)))
 
     -- a column more than 512
-    pub held-full : (cands : ℕ) → q < cands → c ≡ 512 → 513 ≡ cond (leb (length (firstsOf R cands)) 512) (length (firstsOf R cands)) 513
-    held-full cands l e =
+    pub so-far-full : (cands : ℕ) → q < cands → c ≡ 512 → 513 ≡ cond (leb (length (firstsOf R cands)) 512) (length (firstsOf R cands)) 513
+    so-far-full cands l e =
         let ps = firstsOf R q in
-        let full : count ≡ 512 = omega (arith, held-le, h .few) in
+        let full : count ≡ 512 = omega (arith, so-far-le, h .few) in
         let more : firstsOf R (suc q) ≡ ps ++ (q ∷ []) = firsts-new R q (omega (arith, h .many)) in
         let long : length (firstsOf R (suc q)) ≡ 513 = ap length more ∙ omega (arith, length-append ps (q ∷ []), h .many) in
         let rise = firsts-rise R (suc q) cands l in
         sym (cond-no (leb (length (firstsOf R cands)) 512) (length (firstsOf R cands)) 513 (lt-leb (length (firstsOf R cands)) 512 (omega arith)))
 
   -- all columns are numbered
-  module _ (q count : ℕ) (keys kept : List ℕ) (h : Held R K q count keys kept) where
-    pub held-count : count ≡ cond (leb (length (firstsOf R q)) 512) (length (firstsOf R q)) 513
-    held-count =
+  module _ (q count : ℕ) (keys kept : List ℕ) (h : SoFar R K q count keys kept) where
+    pub so-far-count : count ≡ cond (leb (length (firstsOf R q)) 512) (length (firstsOf R q)) 513
+    so-far-count =
         h .many ∙ sym (cond-yes (leb (length (firstsOf R q)) 512) (length (firstsOf R q)) 513 (le-leb (length (firstsOf R q)) 512 (omega (arith, h .many, h .few))))
 
-    pub held-copy : (l : List ℕ) → puts count (λ c. getD kept c 0) l ≡ sets l 0 (firstsOf R q)
-    held-copy l =
+    pub so-far-copy : (l : List ℕ) → puts count (λ c. getD kept c 0) l ≡ sets l 0 (firstsOf R q)
+    so-far-copy l =
         let ps = firstsOf R q in
         puts-ext (λ c. getD kept c 0) (λ c. getD ps c 0) count l (h .first) ∙ puts-sets (λ c. getD ps c 0) count l
         ∙ ap (λ (n : ℕ). sets l 0 (tab n (λ c. getD ps c 0))) (h .many) ∙ ap (sets l 0) (tab-of 0 ps)
 
 -- the number of column q, found by its key
 module _ (zs os : List ℕ) (size : ℕ) where
-  abbrev pub HeldWords : ℕ → ℕ → List ℕ → List ℕ → Type 0
-  HeldWords = Held (sameWords zs os size) (keyOf zs os size)
+  abbrev pub SoFarWords : ℕ → ℕ → List ℕ → List ℕ → Type 0
+  SoFarWords = SoFar (sameWords zs os size) (keyOf zs os size)
 
-  module _ (q count : ℕ) (keys kept : List ℕ) (h : HeldWords q count keys kept) where
-    pub held-index : (k c : ℕ) → k ≡ keyOf zs os size q → c ≡ least count (isKept zs os size keys kept q k)
+  module _ (q count : ℕ) (keys kept : List ℕ) (h : SoFarWords q count keys kept) where
+    pub so-far-index : (k c : ℕ) → k ≡ keyOf zs os size q → c ≡ least count (isKept zs os size keys kept q k)
         → c ≡ indexIn (sameWords zs os size) (firstsOf (sameWords zs os size) q) q
     unfolding isKept indexIn
-    held-index k c e found =
+    so-far-index k c e found =
         let ps = firstsOf (sameWords zs os size) q in
         found
         ∙ find-ext (isKept zs os size keys kept q k) (λ c. sameWords zs os size q (getD ps c 0)) count 0
@@ -168,8 +168,8 @@ module _ (zs os : List ℕ) (size : ℕ) where
             by-test (sameWords zs os size q p) (λ t. rw (eq-eqb (keyOf zs os size p) (keyOf zs os size q) (sym (same-key zs os size q p t))))
             (λ t. rw (t, and-false))
 
-    pub held-inside : (cands : ℕ) → q ≤ cands → cands * size ≤ 1024 → Inside count size kept
-    held-inside cands l b c k =
+    pub so-far-inside : (cands : ℕ) → q ≤ cands → cands * size ≤ 1024 → Inside count size kept
+    so-far-inside cands l b c k =
         let e = h .first c k in
         let s = h .below c k in
         rw e (omega (arith, row-end (getD (firstsOf (sameWords zs os size) q) c 0) cands size (omega arith)))

@@ -16,10 +16,10 @@ use Rattle.cutting.proofs.cell_rows.fill_block.Reads as fill-block
 use Rattle.cutting.proofs.cell_rows.fill_block.Kinds as kinds
 use Rattle.cutting.proofs.cell_rows.+fill_block.Lts-fill_block as lts
 use Rattle.cutting.proofs.cell_rows.allowed.Reads as allowed-reads
-use Rattle.cutting.proofs.cell_rows.high_of.Reads as high-of-reads
+use Rattle.walks.proofs.nodes.high_of.Reads as high-of-reads
 use Rattle.cutting.proofs.cell_rows.is_input_at.Reads as is-input-at-reads
 use Rattle.cutting.proofs.cell_rows.last_row.Reads as last-row-reads
-use Rattle.cutting.proofs.cell_rows.low_of.Reads as low-of-reads
+use Rattle.walks.proofs.nodes.low_of.Reads as low-of-reads
 use Rattle.cutting.proofs.cell_rows.power.Reads as power-reads
 use Rattle.cutting.proofs.cell_rows.row_from.Reads as row-from-reads
 use Rattle.cutting.proofs.cell_rows.with_output.Reads as with-output-reads
@@ -108,10 +108,10 @@ returns-2 t c =
     (c .before .before .before .before .before .row-from .ensures) (c .before .before .before .before .power .ensures .0) (c .before .before .write-same .ensures)
 
 low-of-requires : (t : ℕ) → lts.Need-low-of-requires (calls t) (here t) fill-block.Post
-low-of-requires t c κs = let a = c .before .before .before .before .args in going-on (a .k) (a .node) (c .if2 .left) .1
+low-of-requires t c κs = search needs
 
 high-of-requires : (t : ℕ) → lts.Need-high-of-requires (calls t) (here t) fill-block.Post
-high-of-requires t c κs = let a = c .before .before .before .before .before .args in going-on (a .k) (a .node) (c .before .if2 .left) .1
+high-of-requires t c κs = search needs
 
 sub-below : (t : ℕ) → lts.Need-sub-below (calls t) (here t) fill-block.Post
 sub-below t c = let a = c .before .before .before .before .before .before .args in omega (arith, going-on (a .k) (a .node) (c .before .before .if2 .left) .0)

@@ -16,9 +16,9 @@ use Rattle.cutting.proofs.cell_rows.last_row.Kinds as kinds
 use Rattle.cutting.proofs.cell_rows.+last_row.Lts-last_row as lts
 use Rattle.cutting.proofs.cell_rows.allowed.Reads as allowed-reads
 use Rattle.cutting.proofs.cell_rows.chosen.Reads as chosen-reads
-use Rattle.cutting.proofs.cell_rows.high_of.Reads as high-of-reads
+use Rattle.walks.proofs.nodes.high_of.Reads as high-of-reads
 use Rattle.cutting.proofs.cell_rows.is_input_at.Reads as is-input-at-reads
-use Rattle.cutting.proofs.cell_rows.low_of.Reads as low-of-reads
+use Rattle.walks.proofs.nodes.low_of.Reads as low-of-reads
 use Rattle.cutting.proofs.cell_rows.row_from.Reads as row-from-reads
 use Rattle.cutting.proofs.cell_rows.with_output.Reads as with-output-reads
 use Rattle.cutting.proofs.cell_rows.+last_row.{statement}
@@ -67,14 +67,10 @@ returns t c =
     ∙ ended-row (now (a .words)) (now (a .order)) (a .bottom) (a .lower) (a .rails) (a .k) (a .node) (a .o) 0 (a .x) (c .before .if1 .taken)
 
 low-of-requires : (t : ℕ) → lts.Need-low-of-requires (calls t) (here t) last-row.Post
-low-of-requires t c κs =
-    let a = c .before .before .args in
-    going-on (a .k) (a .node) (c .if1 .left) .1
+low-of-requires t c κs = search needs
 
 high-of-requires : (t : ℕ) → lts.Need-high-of-requires (calls t) (here t) last-row.Post
-high-of-requires t c κs =
-    let a = c .before .before .before .args in
-    going-on (a .k) (a .node) (c .before .if1 .left) .1
+high-of-requires t c κs = search needs
 
 sub-below : (t : ℕ) → lts.Need-sub-below (calls t) (here t) last-row.Post
 sub-below t c =

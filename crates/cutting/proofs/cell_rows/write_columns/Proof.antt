@@ -28,22 +28,22 @@ loop-holds c =
     (a .lower) (a .rails) (a .count) in
     (omega arith, sym (ap (λ (k : ℕ). putsAt (a .at) k f (a .rows .now)) (zero-mul (a .size)) ∙ putsAt-none f (a .at) (a .rows .now)))
 
-wide-requires : tie.Need-wide-requires Inv-loop μ-loop
-wide-requires c κs = search needs
+wide16-requires : tie.Need-wide16-requires Inv-loop μ-loop
+wide16-requires c κs = search needs
 
-add-word : tie.Need-add-word Inv-loop μ-loop
-add-word c =
+add-narrow16 : tie.Need-add-narrow16 Inv-loop μ-loop
+add-narrow16 c =
     let l = c .before .before .loop in
     let a = c .before .before .before .before .before .args in
     let p = c .before .before .before .before .before .pre in
-    omega (arith, c .before .loop-test .taken, c .wide .ensures .0, p .3)
+    omega (arith, c .before .loop-test .taken, c .wide16 .ensures .0, p .3)
 
-word-requires : tie.Need-word-requires Inv-loop μ-loop
-word-requires c κs =
+narrow16-requires : tie.Need-narrow16-requires Inv-loop μ-loop
+narrow16-requires c κs =
     let l = c .before .before .loop in
     let a = c .before .before .before .before .before .args in
     let p = c .before .before .before .before .before .pre in
-    omega (arith, c .before .loop-test .taken, c .wide .ensures .0, p .3)
+    omega (arith, c .before .loop-test .taken, c .wide16 .ensures .0, p .3)
 
 mul-write-column : tie.Need-mul-write-column Inv-loop μ-loop
 mul-write-column c =
@@ -67,13 +67,13 @@ write-column-requires c κs =
     let f : ℕ → ℕ = walkedRow (a .words .now) (a .order .now) (a .top) (a .bottom) (a .upper) (a .width)
     (a .lower) (a .rails) (a .count) in
     let t = c .before .before .before .loop-test .taken in
-    let v : c .before .word .result ≡ a .upper + l .c = omega (arith, c .before .word .ensures, c .before .before .wide .ensures .0) in (
+    let v : c .before .narrow16 .result ≡ a .upper + l .c = omega (arith, c .before .narrow16 .ensures, c .before .before .wide16 .ensures .0) in (
       p .0,
       p .1,
       few-inputs (a .count) (a .size) (p .1) (p .2),
       omega (arith, row-end (l .c) (a .width) (a .size) t, p .4, ap length (l .inv .1) ∙ length-putsAt f (a .at) (l .c * a .size) (a .rows .now)),
       λ x h. column-byte (a .words .now) (a .order .now) (a .top) (a .bottom) (a .upper) (a .width) (a .lower) (a .rails) (a .count) (a .size) (p .1) (p .5)
-          (l .c) (c .before .word .result) x t v h,
+          (l .c) (c .before .narrow16 .result) x t v h,
     )
 
 add-c : tie.Need-add-c Inv-loop μ-loop
@@ -96,8 +96,8 @@ loop-again c =
     let a = c .before .before .before .before .before .before .before .before .before .before .args in
     let p = c .before .before .before .before .before .before .before .before .before .before .pre in
     let t = c .before .before .before .before .before .before .loop-test .taken in
-    let w = c .before .before .before .before .word in
-    let v : w .result ≡ a .upper + l .c = omega (arith, w .ensures, c .before .before .before .before .before .wide .ensures .0) in (
+    let w = c .before .before .before .before .narrow16 in
+    let v : w .result ≡ a .upper + l .c = omega (arith, w .ensures, c .before .before .before .before .before .wide16 .ensures .0) in (
       omega (arith, t),
       column-more (a .words .now) (a .order .now) (a .top) (a .bottom) (a .upper) (a .width) (a .lower) (a .rails) (a .count) (a .size) (p .1) (a .at)
           (l .c) (w .result) (a .rows .now) (l .rows) _ t v (l .inv .1) (c .before .before .write-column .ensures),
@@ -124,9 +124,9 @@ write-columns-spec =
     Inv-loop
     μ-loop
     loop-holds
-    wide-requires
-    add-word
-    word-requires
+    wide16-requires
+    add-narrow16
+    narrow16-requires
     mul-write-column
     add-write-column
     write-column-requires

@@ -10,7 +10,7 @@ use Rattle.laws.proofs.Puts.{puts-none, puts-next}
 use Rattle.reduction_spec.specs.Numbering.{indexIn, firstsOf}
 use Rattle.reduction.specs.Distinct.{sameWords}
 use Rattle.reduction.specs.ColumnHashes.{keyOf}
-use Rattle.reduction.proofs.distinct.NumberedSoFar.{HeldWords, held-none, held-index, held-inside, held-small, held-room, held-next, held-full, held-count, held-copy}
+use Rattle.reduction.proofs.distinct.NumberedSoFar.{SoFarWords, so-far-none, so-far-index, so-far-inside, so-far-small, so-far-room, so-far-next, so-far-full, so-far-count, so-far-copy}
 use borrow.Author.Needs.{needs}
 use native.Mathlib.Omega.{arith}
 use Rattle.reduction.proofs.distinct.number.Statement.{statement}
@@ -18,7 +18,7 @@ use Rattle.reduction.proofs.distinct.number.Tie as tie
 
 abbrev Inv-loop : tie.InvT-loop
 Inv-loop cands size zero one firsts numbers₀ keys₀ kept₀ count₀ q₀ numbers keys kept count q =
-    (q ≤ cands) × HeldWords zero one size q count keys kept
+    (q ≤ cands) × SoFarWords zero one size q count keys kept
     × (numbers ≡ puts q (λ i. indexIn (sameWords zero one size) (firstsOf (sameWords zero one size) i) i) numbers₀)
 
 abbrev μ-loop : tie.MeasureT-loop
@@ -28,7 +28,7 @@ loop-holds : tie.Need-loop-holds Inv-loop μ-loop
 loop-holds c =
     let a = c .args in
     let R : ℕ → ℕ → Bool = sameWords (a .zero .now) (a .one .now) (a .size) in
-    (omega arith, held-none R (keyOf (a .zero .now) (a .one .now) (a .size)), sym (puts-none (λ i. indexIn R (firstsOf R i) i) (a .numbers .now)))
+    (omega arith, so-far-none R (keyOf (a .zero .now) (a .one .now) (a .size)), sym (puts-none (λ i. indexIn R (firstsOf R i) i) (a .numbers .now)))
 
 key-requires : tie.Need-key-requires Inv-loop μ-loop
 key-requires c κs =
@@ -41,7 +41,7 @@ index-of-requires c κs =
     let a = c .before .before .before .before .before .args in (
       l .inv .1 .few,
       omega (arith, row-end (l .q) (a .cands) (a .size) (c .before .before .before .loop-test .taken)),
-      held-inside (a .zero .now) (a .one .now) (a .size) (l .q) (l .count) (l .keys) (l .kept) (l .inv .1) (a .cands) (l .inv .0) (c .before .before .before .before .before .pre .2),
+      so-far-inside (a .zero .now) (a .one .now) (a .size) (l .q) (l .count) (l .keys) (l .kept) (l .inv .1) (a .cands) (l .inv .0) (c .before .before .before .before .before .pre .2),
     )
 
 returns : tie.Need-returns Inv-loop μ-loop
@@ -51,8 +51,8 @@ returns c =
     let R : ℕ → ℕ → Bool = sameWords (a .zero .now) (a .one .now) (a .size) in
     let K : ℕ → ℕ = keyOf (a .zero .now) (a .one .now) (a .size) in
     let j : c .before .index-of .result ≡ indexIn R (firstsOf R (l .q)) (l .q) =
-    held-index (a .zero .now) (a .one .now) (a .size) (l .q) (l .count) (l .keys) (l .kept) (l .inv .1) (c .before .before .before .before .key .result) (c .before .index-of .result) (c .before .before .before .before .key .ensures) (c .before .index-of .ensures) in
-    (held-full R K (l .q) (l .count) (l .keys) (l .kept) (l .inv .1) (c .before .index-of .result) j (a .cands) (omega arith) (c .if1 .taken), ((λ z. absurd (omega arith)), (λ z. absurd (omega arith))))
+    so-far-index (a .zero .now) (a .one .now) (a .size) (l .q) (l .count) (l .keys) (l .kept) (l .inv .1) (c .before .before .before .before .key .result) (c .before .index-of .result) (c .before .before .before .before .key .ensures) (c .before .index-of .ensures) in
+    (so-far-full R K (l .q) (l .count) (l .keys) (l .kept) (l .inv .1) (c .before .index-of .result) j (a .cands) (omega arith) (c .if1 .taken), ((λ z. absurd (omega arith)), (λ z. absurd (omega arith))))
 
 cast-keep : tie.Need-cast-keep Inv-loop μ-loop
 cast-keep c = search needs
@@ -64,8 +64,8 @@ keep-requires c κs =
     let R : ℕ → ℕ → Bool = sameWords (a .zero .now) (a .one .now) (a .size) in
     let K : ℕ → ℕ = keyOf (a .zero .now) (a .one .now) (a .size) in
     let j : c .before .before .before .index-of .result ≡ indexIn R (firstsOf R (l .q)) (l .q) =
-    held-index (a .zero .now) (a .one .now) (a .size) (l .q) (l .count) (l .keys) (l .kept) (l .inv .1) (c .before .before .before .before .before .before .key .result) (c .before .before .before .index-of .result) (c .before .before .before .before .before .before .key .ensures) (c .before .before .before .index-of .ensures) in
-    held-room R K (l .q) (l .count) (l .keys) (l .kept) (l .inv .1) (c .before .before .before .index-of .result) j (c .before .before .if1 .left)
+    so-far-index (a .zero .now) (a .one .now) (a .size) (l .q) (l .count) (l .keys) (l .kept) (l .inv .1) (c .before .before .before .before .before .before .key .result) (c .before .before .before .index-of .result) (c .before .before .before .before .before .before .key .ensures) (c .before .before .before .index-of .ensures) in
+    so-far-room R K (l .q) (l .count) (l .keys) (l .kept) (l .inv .1) (c .before .before .before .index-of .result) j (c .before .before .if1 .left)
 
 cast-numbers : tie.Need-cast-numbers Inv-loop μ-loop
 cast-numbers c =
@@ -74,8 +74,8 @@ cast-numbers c =
     let R : ℕ → ℕ → Bool = sameWords (a .zero .now) (a .one .now) (a .size) in
     let K : ℕ → ℕ = keyOf (a .zero .now) (a .one .now) (a .size) in
     let j : c .before .before .before .before .index-of .result ≡ indexIn R (firstsOf R (l .q)) (l .q) =
-    held-index (a .zero .now) (a .one .now) (a .size) (l .q) (l .count) (l .keys) (l .kept) (l .inv .1) (c .before .before .before .before .before .before .before .key .result) (c .before .before .before .before .index-of .result) (c .before .before .before .before .before .before .before .key .ensures) (c .before .before .before .before .index-of .ensures) in
-    let s = held-small R K (l .q) (l .count) (l .keys) (l .kept) (l .inv .1) (c .before .before .before .before .index-of .result) j in
+    so-far-index (a .zero .now) (a .one .now) (a .size) (l .q) (l .count) (l .keys) (l .kept) (l .inv .1) (c .before .before .before .before .before .before .before .key .result) (c .before .before .before .before .index-of .result) (c .before .before .before .before .before .before .before .key .ensures) (c .before .before .before .before .index-of .ensures) in
+    let s = so-far-small R K (l .q) (l .count) (l .keys) (l .kept) (l .inv .1) (c .before .before .before .before .index-of .result) j in
     omega (arith, s)
 
 mul-numbers : tie.Need-mul-numbers Inv-loop μ-loop
@@ -97,9 +97,9 @@ loop-again c =
     let R : ℕ → ℕ → Bool = sameWords (a .zero .now) (a .one .now) (a .size) in
     let K : ℕ → ℕ = keyOf (a .zero .now) (a .one .now) (a .size) in
     let j : c .before .before .before .before .index-of .result ≡ indexIn R (firstsOf R (l .q)) (l .q) =
-    held-index (a .zero .now) (a .one .now) (a .size) (l .q) (l .count) (l .keys) (l .kept) (l .inv .1) (c .before .before .before .before .before .before .before .key .result) (c .before .before .before .before .index-of .result) (c .before .before .before .before .before .before .before .key .ensures) (c .before .before .before .before .index-of .ensures) in (
+    so-far-index (a .zero .now) (a .one .now) (a .size) (l .q) (l .count) (l .keys) (l .kept) (l .inv .1) (c .before .before .before .before .before .before .before .key .result) (c .before .before .before .before .index-of .result) (c .before .before .before .before .before .before .before .key .ensures) (c .before .before .before .before .index-of .ensures) in (
       omega arith,
-      held-next R K (l .q) (l .count) (l .keys) (l .kept) (l .inv .1) (c .before .before .before .before .index-of .result) j (c .before .before .before .before .before .before .before .key .result) _ _ _ (held-room R K (l .q) (l .count) (l .keys) (l .kept) (l .inv .1) (c .before .before .before .before .index-of .result) j (c .before .before .before .if1 .left)) (c .before .before .before .before .before .before .before .key .ensures) (c .keep .ensures .0) (c .keep .ensures .1 .0) (c .keep .ensures .1 .1),
+      so-far-next R K (l .q) (l .count) (l .keys) (l .kept) (l .inv .1) (c .before .before .before .before .index-of .result) j (c .before .before .before .before .before .before .before .key .result) _ _ _ (so-far-room R K (l .q) (l .count) (l .keys) (l .kept) (l .inv .1) (c .before .before .before .before .index-of .result) j (c .before .before .before .if1 .left)) (c .before .before .before .before .before .before .before .key .ensures) (c .keep .ensures .0) (c .keep .ensures .1 .0) (c .keep .ensures .1 .1),
       puts-next (λ i. indexIn R (firstsOf R i) i) (l .q) (a .numbers .now) (l .numbers) _ (l .inv .2) j,
     )
 
@@ -113,9 +113,9 @@ returns-2 c =
     let R : ℕ → ℕ → Bool = sameWords (a .zero .now) (a .one .now) (a .size) in
     let K : ℕ → ℕ = keyOf (a .zero .now) (a .one .now) (a .size) in
     let e : l .q ≡ a .cands = omega arith in (
-      rw e at (held-count R K (l .q) (l .count) (l .keys) (l .kept) (l .inv .1)),
+      rw e at (so-far-count R K (l .q) (l .count) (l .keys) (l .kept) (l .inv .1)),
       (
-        (λ z. c .copy .ensures ∙ held-copy R K (l .q) (l .count) (l .keys) (l .kept) (l .inv .1) (a .firsts .now) ∙ ap (λ (n : ℕ). sets (a .firsts .now) 0 (firstsOf R n)) e),
+        (λ z. c .copy .ensures ∙ so-far-copy R K (l .q) (l .count) (l .keys) (l .kept) (l .inv .1) (a .firsts .now) ∙ ap (λ (n : ℕ). sets (a .firsts .now) 0 (firstsOf R n)) e),
         (λ z. rw e at (l .inv .2)),
       ),
     )

@@ -12,20 +12,20 @@ use Rattle.stored.proofs.reads.row_of.Tie as tie
 has-rows-requires : tie.Need-has-rows-requires
 has-rows-requires c κs = search needs
 
-wide-word-requires : tie.Need-wide-word-requires
-wide-word-requires c κs = search needs
+wide16-requires : tie.Need-wide16-requires
+wide16-requires c κs = search needs
 
-wide-word-requires-2 : tie.Need-wide-word-requires-2
-wide-word-requires-2 c κs = search needs
+wide16-requires-2 : tie.Need-wide16-requires-2
+wide16-requires-2 c κs = search needs
 
 find-row-requires : tie.Need-find-row-requires
-find-row-requires c κs = (sym (c .before .before .before .has-rows .ensures) ∙ c .before .before .if1 .taken, c .before .wide-word .ensures .1, c .wide-word2 .ensures .1)
+find-row-requires c κs = (sym (c .before .before .before .has-rows .ensures) ∙ c .before .before .if1 .taken, c .before .wide16 .ensures .1, c .wide162 .ensures .1)
 
 returns : tie.Need-returns
 returns c =
     let a = c .before .before .before .before .before .before .args in
     c .find-row .ensures
-    ∙ ap₂ (λ (x y : ℕ). rowRead (now (a .records)) (a .k) x y) (c .before .before .wide-word .ensures .0) (c .before .wide-word2 .ensures .0)
+    ∙ ap₂ (λ (x y : ℕ). rowRead (now (a .records)) (a .k) x y) (c .before .before .wide16 .ensures .0) (c .before .wide162 .ensures .0)
 
 returns-2 : tie.Need-returns-2
 returns-2 c = let a = c .before .before .before .args in no-row (now (a .records)) (a .k) (sym (c .before .has-rows .ensures) ∙ c .if1 .left) (a .rail) (a .word)
@@ -35,8 +35,8 @@ row-of-spec =
     tie.close
     (tie.spec
     has-rows-requires
-    wide-word-requires
-    wide-word-requires-2
+    wide16-requires
+    wide16-requires-2
     find-row-requires
     returns
     returns-2)

@@ -9,9 +9,9 @@ use borrow.Fn.PlainCycle.{Measures, is, falls, and}
 use Rattle.walks.proofs.walks.compatible_nodes.Reads as compatible-nodes
 use Rattle.walks.proofs.walks.compatible_nodes.Kinds as kinds
 use Rattle.walks.proofs.walks.+compatible_nodes.Lts-compatible_nodes as lts
-use Rattle.walks.proofs.walks.high_of.Reads as high-of-reads
+use Rattle.walks.proofs.nodes.high_of.Reads as high-of-reads
 use Rattle.walks.proofs.walks.is_open.Reads as is-open-reads
-use Rattle.walks.proofs.walks.low_of.Reads as low-of-reads
+use Rattle.walks.proofs.nodes.low_of.Reads as low-of-reads
 use Rattle.walks.proofs.walks.+compatible_nodes.{statement}
 use Rattle.walks.proofs.walks.+compatible_nodes.Tie.{close}
 

@@ -11,12 +11,12 @@ use Rattle.walks.proofs.walks.descend.Reads as descend
 use Rattle.walks.proofs.walks.descend.Kinds as kinds
 use Rattle.walks.proofs.walks.+descend.Lts-descend as lts
 use Rattle.walks.proofs.walks.child_of.Reads as child-of-reads
-use Rattle.walks.proofs.walks.high_of.Reads as high-of-reads
-use Rattle.walks.proofs.walks.is_input_at.Reads as is-input-at-reads
+use Rattle.walks.proofs.nodes.high_of.Reads as high-of-reads
+use Rattle.walks.proofs.nodes.is_input_at.Reads as is-input-at-reads
 use Rattle.walks.proofs.walks.less.Reads as less-reads
-use Rattle.walks.proofs.walks.low_of.Reads as low-of-reads
-use Rattle.walks.proofs.casts.wide8.Reads as wide8-reads
-use Rattle.walks.proofs.casts.long16.Reads as long16-reads
+use Rattle.walks.proofs.nodes.low_of.Reads as low-of-reads
+use Rattle.numbers.proofs.wide.Reads as wide-reads
+use Rattle.numbers.proofs.long16.Reads as long16-reads
 use Rattle.walks.proofs.walks.+descend.{statement}
 use Rattle.walks.proofs.walks.+descend.Tie.{close}
 
@@ -32,8 +32,8 @@ lower t = and 2 kinds.ps (falls 2 kinds.ps _<_ measure t) descend.Pre
 -- what the calls ask and ensure
 abbrev calls : ℕ → lts.Claims
 calls t = (
-  wide8-reads.Asked,
-  wide8-reads.Learnt,
+  wide-reads.Asked,
+  wide-reads.Learnt,
   is-input-at-reads.Asked,
   is-input-at-reads.Learnt,
   less-reads.Asked,
@@ -60,11 +60,11 @@ returns-2 t c =
     let a = c .before .before .before .args in
     descend-stop (now (a .words)) (now (a .order)) (a .bottom) (a .k) (a .v) (a .x) (a .count) (a .o) (c .if2 .taken)
 
-wide8-requires : (t : ℕ) → lts.Need-wide8-requires (calls t) (here t) descend.Post
-wide8-requires t c κs = search needs
+wide-requires : (t : ℕ) → lts.Need-wide-requires (calls t) (here t) descend.Post
+wide-requires t c κs = search needs
 
-wide8-requires-2 : (t : ℕ) → lts.Need-wide8-requires-2 (calls t) (here t) descend.Post
-wide8-requires-2 t c κs = search needs
+wide-requires-2 : (t : ℕ) → lts.Need-wide-requires-2 (calls t) (here t) descend.Post
+wide-requires-2 t c κs = search needs
 
 add-is-input-at : (t : ℕ) → lts.Need-add-is-input-at (calls t) (here t) descend.Post
 add-is-input-at t c = search needs
@@ -100,8 +100,8 @@ returns-3 t c =
     let s = i .before .before .before in
     let a = s .before .before .before .args in
     descend-input (now (a .words)) (now (a .order)) (a .bottom) (a .k) (a .v) (a .x) (a .count) (a .o) (s .before .if1 .left) (s .if2 .left)
-    (i .before .before .wide8 .result + i .before .wide82 .result - 1) (i .is-input-at .result)
-    (omega (arith, i .before .before .wide8 .ensures .0, i .before .wide82 .ensures .0, s .before .if1 .left)) (i .is-input-at .ensures)
+    (i .before .before .wide .result + i .before .wide2 .result - 1) (i .is-input-at .result)
+    (omega (arith, i .before .before .wide .ensures .0, i .before .wide2 .ensures .0, s .before .if1 .left)) (i .is-input-at .ensures)
     (c .before .before .long16 .result) (c .before .child-of .result) (c .before .before .before .less .result) (c .descend .result)
     (c .before .before .before .before .if3 .taken) (c .before .before .long16 .ensures) (c .before .before .before .less .ensures)
     (c .before .child-of .ensures) (c .descend .ensures)
@@ -140,8 +140,8 @@ returns-4 t c =
     let s = i .before .before .before in
     let a = s .before .before .before .args in
     descend-forced (now (a .words)) (now (a .order)) (a .bottom) (a .k) (a .v) (a .x) (a .count) (a .o) (s .before .if1 .left) (s .if2 .left)
-    (i .before .before .wide8 .result + i .before .wide82 .result - 1) (i .is-input-at .result)
-    (omega (arith, i .before .before .wide8 .ensures .0, i .before .wide82 .ensures .0, s .before .if1 .left)) (i .is-input-at .ensures)
+    (i .before .before .wide .result + i .before .wide2 .result - 1) (i .is-input-at .result)
+    (omega (arith, i .before .before .wide .ensures .0, i .before .wide2 .ensures .0, s .before .if1 .left)) (i .is-input-at .ensures)
     (c .before .before .before .low-of .result) (c .before .high-of .result) (c .descend2 .result)
     (c .before .before .before .before .if3 .left) (c .before .before .before .low-of .ensures) (c .before .before .if4 .taken)
     (c .before .high-of .ensures) (c .descend2 .ensures)
@@ -168,8 +168,8 @@ returns-5 t c =
     let s = i .before .before .before in
     let a = s .before .before .before .args in
     descend-other (now (a .words)) (now (a .order)) (a .bottom) (a .k) (a .v) (a .x) (a .count) (a .o) (s .before .if1 .left) (s .if2 .left)
-    (i .before .before .wide8 .result + i .before .wide82 .result - 1) (i .is-input-at .result)
-    (omega (arith, i .before .before .wide8 .ensures .0, i .before .wide82 .ensures .0, s .before .if1 .left)) (i .is-input-at .ensures)
+    (i .before .before .wide .result + i .before .wide2 .result - 1) (i .is-input-at .result)
+    (omega (arith, i .before .before .wide .ensures .0, i .before .wide2 .ensures .0, s .before .if1 .left)) (i .is-input-at .ensures)
     (c .before .before .low-of .result) (c .descend3 .result) (c .before .before .before .if3 .left) (c .before .before .low-of .ensures)
     (c .before .if4 .left) (c .descend3 .ensures)
 
@@ -179,8 +179,8 @@ pub +descend-spec : {M : Type 1} → statement M
     descend.Post
     (returns t)
     (returns-2 t)
-    (wide8-requires t)
-    (wide8-requires-2 t)
+    (wide-requires t)
+    (wide-requires-2 t)
     (add-is-input-at t)
     (sub-is-input-at t)
     (is-input-at-requires t)

@@ -9,8 +9,8 @@ use borrow.Fn.PlainCycle.{Measures, is, falls, and}
 use Rattle.walks.proofs.walks.same_nodes.Reads as same-nodes
 use Rattle.walks.proofs.walks.same_nodes.Kinds as kinds
 use Rattle.walks.proofs.walks.+same_nodes.Lts-same_nodes as lts
-use Rattle.walks.proofs.walks.high_of.Reads as high-of-reads
-use Rattle.walks.proofs.walks.low_of.Reads as low-of-reads
+use Rattle.walks.proofs.nodes.high_of.Reads as high-of-reads
+use Rattle.walks.proofs.nodes.low_of.Reads as low-of-reads
 use Rattle.walks.proofs.walks.+same_nodes.{statement}
 use Rattle.walks.proofs.walks.+same_nodes.Tie.{close}
 

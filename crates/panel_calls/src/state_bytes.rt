@@ -1,0 +1,175 @@
+// The bank and the scan state as bytes that C lends.
+ghost use mathlib.Core.Path.{_≡_};
+ghost use Prim.Native.Nat.{_<_, _+_, _*_};
+ghost use lib.ListN.{getD};
+ghost use Rattle.laws.specs.Bits.{flag};
+ghost use Rattle.laws.specs.Lists.{tab, puts, putsAt};
+ghost use Rattle.panel_calls.specs.StateBytes.{pairAt, bankIn, scanIn, bankBytes, wordByte, scanBytes};
+use bank_spec::Bank;
+use bank_spec::Scan;
+
+// The number in two bytes.
+fn joined(low: u8, high: u8) -> u16
+    ensures { λ r. ⌜ r ≡ low + 256 * high ⌝ }
+{
+    (low as u16) + 256 * (high as u16)
+}
+
+fn lengths_in(bytes: &[u8; 651]) -> [u8; 8]
+    ensures { λ r. ⌜ r ≡ tab 8 (λ i. getD (now (bytes .entry)) (3 + i) 0) ⌝ }
+{
+    let mut lengths = [0u8; 8];
+    let mut i = 0;
+    while i < 8 {
+        lengths[i] = bytes[3 + i];
+        i += 1;
+    }
+    lengths
+}
+
+fn records_in(bytes: &[u8; 651]) -> [u8; 640]
+    ensures { λ r. ⌜ r ≡ tab 640 (λ i. getD (now (bytes .entry)) (11 + i) 0) ⌝ }
+{
+    let mut records = [0u8; 640];
+    let mut i = 0;
+    while i < 640 {
+        records[i] = bytes[11 + i];
+        i += 1;
+    }
+    records
+}
+
+pub fn bank_in(bytes: &[u8; 651]) -> Bank
+    ensures { λ r. ⌜ r ≡ bankIn (now (bytes .entry)) ⌝ }
+{
+    Bank {
+        limit: joined(bytes[0], bytes[1]),
+        count: bytes[2],
+        lengths: lengths_in(bytes),
+        records: records_in(bytes),
+    }
+}
+
+fn words_in(bytes: &[u8; 85]) -> [u16; 8]
+    ensures { λ r. ⌜ r ≡ tab 8 (λ i. pairAt (now (bytes .entry)) (5 + 2 * i)) ⌝ }
+{
+    let mut words = [0u16; 8];
+    let mut i = 0;
+    while i < 8 {
+        words[i] = joined(bytes[5 + 2 * i], bytes[6 + 2 * i]);
+        i += 1;
+    }
+    words
+}
+
+fn outputs_in(bytes: &[u8; 85]) -> [u8; 64]
+    ensures { λ r. ⌜ r ≡ tab 64 (λ i. getD (now (bytes .entry)) (21 + i) 0) ⌝ }
+{
+    let mut outputs = [0u8; 64];
+    let mut i = 0;
+    while i < 64 {
+        outputs[i] = bytes[21 + i];
+        i += 1;
+    }
+    outputs
+}
+
+pub fn scan_in(bytes: &[u8; 85]) -> Scan
+    ensures { λ r. ⌜ r ≡ scanIn (now (bytes .entry)) ⌝ }
+{
+    Scan {
+        running: bytes[0] != 0,
+        block: bytes[1],
+        cell: bytes[2],
+        rail: joined(bytes[3], bytes[4]),
+        words: words_in(bytes),
+        outputs: outputs_in(bytes),
+    }
+}
+
+fn put_lengths(lengths: &[u8; 8], bytes: &mut [u8; 651])
+    ensures { λ _. ⌜ now (bytes .exit) ≡ putsAt 3 8 (λ i. getD (now (lengths .entry)) i 0) (now (bytes .entry)) ⌝ }
+{
+    let mut i = 0;
+    while i < 8 {
+        bytes[3 + i] = lengths[i];
+        i += 1;
+    }
+}
+
+fn put_records(records: &[u8; 640], bytes: &mut [u8; 651])
+    ensures { λ _. ⌜ now (bytes .exit) ≡ putsAt 11 640 (λ i. getD (now (records .entry)) i 0) (now (bytes .entry)) ⌝ }
+{
+    let mut i = 0;
+    while i < 640 {
+        bytes[11 + i] = records[i];
+        i += 1;
+    }
+}
+
+pub fn put_bank(bank: Bank, bytes: &mut [u8; 651])
+    ensures { λ _. ⌜ now (bytes .exit) ≡ puts 651 (λ i. getD (bankBytes bank) i 0) (now (bytes .entry)) ⌝ }
+{
+    let lengths = bank.lengths;
+    let records = bank.records;
+    bytes[0] = (bank.limit % 256) as u8;
+    bytes[1] = (bank.limit / 256) as u8;
+    bytes[2] = bank.count;
+    put_lengths(&lengths, bytes);
+    put_records(&records, bytes);
+}
+
+// Byte i of the eight words.
+fn word_byte(words: [u16; 8], i: usize) -> u8
+    requires { ⌜ i < 16 ⌝ }
+    ensures { λ r. ⌜ r ≡ wordByte words i ⌝ }
+{
+    let w = words[i / 2];
+    if i % 2 == 0 {
+        return (w % 256) as u8;
+    }
+    (w / 256) as u8
+}
+
+fn put_words(words: [u16; 8], bytes: &mut [u8; 85])
+    ensures { λ _. ⌜ now (bytes .exit) ≡ putsAt 5 16 (wordByte words) (now (bytes .entry)) ⌝ }
+{
+    let mut i = 0;
+    while i < 16 {
+        bytes[5 + i] = word_byte(words, i);
+        i += 1;
+    }
+}
+
+fn put_outputs(outputs: &[u8; 64], bytes: &mut [u8; 85])
+    ensures { λ _. ⌜ now (bytes .exit) ≡ putsAt 21 64 (λ i. getD (now (outputs .entry)) i 0) (now (bytes .entry)) ⌝ }
+{
+    let mut i = 0;
+    while i < 64 {
+        bytes[21 + i] = outputs[i];
+        i += 1;
+    }
+}
+
+fn bit_of(b: bool) -> u8
+    ensures { λ r. ⌜ r ≡ flag b ⌝ }
+{
+    if b {
+        return 1;
+    }
+    0
+}
+
+pub fn put_scan(scan: Scan, bytes: &mut [u8; 85])
+    ensures { λ _. ⌜ now (bytes .exit) ≡ puts 85 (λ i. getD (scanBytes scan) i 0) (now (bytes .entry)) ⌝ }
+{
+    let words = scan.words;
+    let outputs = scan.outputs;
+    bytes[0] = bit_of(scan.running);
+    bytes[1] = scan.block;
+    bytes[2] = scan.cell;
+    bytes[3] = (scan.rail % 256) as u8;
+    bytes[4] = (scan.rail / 256) as u8;
+    put_words(words, bytes);
+    put_outputs(&outputs, bytes);
+}
