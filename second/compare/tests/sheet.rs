@@ -1,6 +1,6 @@
 //! The sheet layer against `plain`: refusal and every byte of the table after, over old contents that vary.
 
-use held::{odd_jobs, sheet_refusal, sheet_table, TABLE_BYTES};
+use proved::{odd_jobs, sheet_refusal, sheet_table, TABLE_BYTES};
 use second::generate::{job, Family};
 use second::job::Job;
 use second::plain;

@@ -1,7 +1,7 @@
 //! The reduction against `fast` and `plain`: refusal, number of nodes, and every word of both arrays after, over old
 //! contents that vary.
 
-use held::{odd_jobs, reduce, Reduction, NODE_WORDS, WIDTHS};
+use proved::{odd_jobs, reduce, Reduction, NODE_WORDS, WIDTHS};
 use second::fast::{self, Compiler};
 use second::generate::{job, Family};
 use second::job::{Answer, Job, Lent, Node};

@@ -1,7 +1,7 @@
 //! The whole compiler against `fast` and `plain`: every field of the answer, every width and every element of the three
 //! memories after, lent long, exact and short, over old contents that vary.
 
-use held::{compile, odd_jobs, Totals, WIDTHS};
+use proved::{compile, odd_jobs, Totals, WIDTHS};
 use second::fast::Compiler;
 use second::generate::{job, Family};
 use second::job::{Answer, Job, Lent, Node};

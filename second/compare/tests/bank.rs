@@ -1,7 +1,7 @@
 //! The proved bank, through its exported functions, against the second bank and its book: every answer, every output and every byte
 //! of bank, scan state and row memory after each call.
 
-use held::{State, StepNumbers};
+use proved::{State, StepNumbers};
 use second::bank::{self, NOT_SET};
 use second::book::{Book, Call, Outputs, Said};
 use second::generate::{block, calls, compiled, damage, job, Family, Random, StoredBlock};
@@ -238,8 +238,8 @@ fn any_bytes() {
 fn limits() {
     for limit in (0..300).chain([511, 65_535, 65_536, 65_537, 1 << 32, usize::MAX]) {
         let mut state = State {
-            bank: [7; held::BANK_BYTES],
-            scan: [9; held::SCAN_BYTES],
+            bank: [7; proved::BANK_BYTES],
+            scan: [9; proved::SCAN_BYTES],
             rows: Vec::new(),
         };
         let before = state.clone();

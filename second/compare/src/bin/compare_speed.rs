@@ -1,6 +1,6 @@
 //! Times the proved layers against `fast`, in one run: the same jobs, both built for release. Argument: jobs for each family.
 
-use held::{compile, reduce, sheet_refusal, sheet_table, State, NODE_WORDS, TABLE_BYTES, WIDTHS};
+use proved::{compile, reduce, sheet_refusal, sheet_table, State, NODE_WORDS, TABLE_BYTES, WIDTHS};
 use second::bank::{self, Bank, Scan};
 use second::fast::{self, read, Compiler};
 use second::generate::{block, compiled as compiled_block, job, Family, StoredBlock};
@@ -230,7 +230,7 @@ fn main() -> ExitCode {
         None => 200,
         Some(Ok(count)) => count,
         Some(Err(_)) => {
-            eprintln!("held_speed [JOBS]");
+            eprintln!("compare_speed [JOBS]");
             return ExitCode::from(2);
         }
     };
