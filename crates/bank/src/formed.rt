@@ -5,6 +5,7 @@ ghost use Prim.Native.Nat.{ℕ, _≤_, _<_, _^_};
 ghost use lib.Dec.{ltb};
 ghost use Rattle.laws.specs.Tests.{every};
 ghost use Rattle.stored_spec.specs.StoredForm.{cellCount, cellAt, rowCount};
+ghost use Rattle.stored.specs.Reads.{cellRails};
 ghost use Rattle.bank_spec.specs.State.{recordsOf, blockFormed, cellsBefore, rowsBefore, bankFormed, scanFormed, formed};
 use bank_spec::Bank;
 use bank_spec::MOST_BLOCKS;
@@ -12,6 +13,7 @@ use bank_spec::MOST_SCAN;
 use bank_spec::Scan;
 use numbers::wide;
 use sheet_spec::MOST_VARIABLES;
+use stored::CellRails;
 use stored_spec::MOST_RECORD_BYTES;
 use stored_spec::MOST_ROWS;
 
@@ -46,7 +48,7 @@ fn blocks_formed(bank: Bank, count: usize) -> bool
 }
 
 // The cells, and the rows, of the block at place b, whose records are well formed.
-fn block_cells(bank: Bank, b: usize) -> usize
+pub fn block_cells(bank: Bank, b: usize) -> usize
     requires { ⌜ (b < 8) × (blockFormed bank b ≡ true) ⌝ }
     ensures { λ r. ⌜ (r ≡ cellCount (recordsOf bank b)) × (r ≤ 20) ⌝ }
 {
@@ -115,18 +117,26 @@ fn bank_formed(bank: Bank) -> bool
     false
 }
 
-// The rail words of a cell of the block at place b, whose records are well formed.
-fn rail_words(bank: Bank, b: usize, cell: usize) -> usize
-    requires { ⌜ (b < 8) × (blockFormed bank b ≡ true) × (cell < cellCount (recordsOf bank b)) ⌝ }
-    ensures { λ r. ⌜ r ≡ 2 ^ cellAt (recordsOf bank b) cell .upper ⌝ }
+// The rails of a cell of the block at place b, whose records are well formed.
+pub fn block_rails(bank: Bank, b: usize, cell: usize) -> CellRails
+    requires { ⌜ (b < 8) × (blockFormed bank b ≡ true) ⌝ }
+    ensures { λ r. ⌜ r ≡ cellRails (recordsOf bank b) cell ⌝ }
 {
     let lengths = bank.lengths;
     let n = wide(lengths[b]);
     let records = bank.records;
-    let rails = stored::cell_rails(
+    stored::cell_rails(
         &records[b * MOST_RECORD_BYTES..b * MOST_RECORD_BYTES + n * 4],
         cell,
-    );
+    )
+}
+
+// The rail words of a cell of it.
+fn rail_words(bank: Bank, b: usize, cell: usize) -> usize
+    requires { ⌜ (b < 8) × (blockFormed bank b ≡ true) × (cell < cellCount (recordsOf bank b)) ⌝ }
+    ensures { λ r. ⌜ r ≡ 2 ^ cellAt (recordsOf bank b) cell .upper ⌝ }
+{
+    let rails = block_rails(bank, b, cell);
     let upper = wide(rails.upper);
     1 << upper
 }

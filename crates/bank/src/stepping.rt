@@ -12,6 +12,8 @@ ghost use Rattle.bank_spec.specs.Calls.{nextRow, outputsOf, moved, step};
 ghost use Rattle.bank_spec.specs.State.{stateOf};
 ghost use Rattle.bank.specs.Given.{givenAnswer};
 use crate::Stepped;
+use crate::formed::block_cells;
+use crate::formed::block_rails;
 use crate::formed::rows_before;
 use crate::formed::state_formed;
 use bank_spec::BANK_OUTPUTS;
@@ -46,12 +48,7 @@ fn more_cells(bank: Bank, scan: Scan) -> bool
     requires { ⌜ (formed bank scan ≡ true) × (scan .running ≡ true) ⌝ }
     ensures { λ r. ⌜ r ≡ ltb (scan .cell + 1) (cellCount (recordsOf bank (scan .block))) ⌝ }
 {
-    let b = wide(scan.block);
-    let lengths = bank.lengths;
-    let n = wide(lengths[b]);
-    let records = bank.records;
-    let cells = stored::cell_count(&records[b * MOST_RECORD_BYTES..b * MOST_RECORD_BYTES + n * 4]);
-    wide(scan.cell) + 1 < cells
+    wide(scan.cell) + 1 < block_cells(bank, wide(scan.block))
 }
 
 // The lowest bits of x.
@@ -67,14 +64,7 @@ fn rail_after(bank: Bank, scan: Scan, x: u8) -> u16
     requires { ⌜ (formed bank scan ≡ true) × (scan .running ≡ true) ⌝ }
     ensures { λ r. ⌜ r ≡ railAfter (cellAt (recordsOf bank (scan .block)) (scan .cell)) x ⌝ }
 {
-    let b = wide(scan.block);
-    let lengths = bank.lengths;
-    let n = wide(lengths[b]);
-    let records = bank.records;
-    let rails = stored::cell_rails(
-        &records[b * MOST_RECORD_BYTES..b * MOST_RECORD_BYTES + n * 4],
-        wide(scan.cell),
-    );
+    let rails = block_rails(bank, wide(scan.block), wide(scan.cell));
     lowest(x, rails.lower)
 }
 

@@ -16,7 +16,7 @@ use Rattle.laws.proofs.Counts.{sum-front}
 use Rattle.sheet_spec.specs.Job.{Job, t}
 use Rattle.sheet_spec.specs.Refusals.{sheetRefusal}
 use Rattle.sheet_spec.specs.Table.{table}
-use Rattle.sheet_spec.proofs.Orders.{ins-rise, outs-rise}
+use Rattle.sheet_spec.proofs.Orders.{ins-rise, outs-rise, ins-outs}
 use Rattle.cutting_spec.specs.Cuts.{CutList, cellBetween}
 use Rattle.stored_spec.specs.Cells.{rows}
 use Rattle.cutting_spec.specs.Choice.{refuse8}
@@ -25,7 +25,6 @@ use Rattle.cutting_spec.specs.Compile.{made}
 use Rattle.cutting_spec.specs.Listing.{cellLines}
 use Rattle.stored.specs.declared.CellPlace.{CellPlace}
 use Rattle.stored.specs.Places.{variablesOf, heightAbove, cellPlace}
-use Rattle.cutting_spec.proofs.RowLimit.{ins-outs}
 use Rattle.cutting_spec.proofs.StoredCuts.{storedBetween, between-ins, between-outs, record-count, cuts-fall, cuts-first, cell-at, cell-count, rows-before}
 use Rattle.cutting_spec.proofs.MadeCascade.{made-cuts, made-count, made-formed}
 use Rattle.stored.proofs.CellPlaces.{between, between-same}

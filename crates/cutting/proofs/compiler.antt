@@ -1,2 +1,3 @@
 -- Laws of `src/compiler.rt`.
 pub mod Assembled
+pub mod PlanRefusals

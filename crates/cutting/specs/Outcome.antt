@@ -1,7 +1,9 @@
 -- What the compiler's code gives back: the answer as its structure, and the three memories after.
 -- Assumes nothing.
-use Prim.Native.Nat.{ℕ}
+use Prim.Native.Nat.{ℕ, _*_}
+use mathlib.Core.Bool.{cond}
 use mathlib.Core.List.{List}
+use lib.Dec.{eqb, ltb}
 use lib.ListN.{replicate}
 use Rattle.laws.specs.Lists.{written}
 use Rattle.sheet_spec.specs.Job.{Job}
@@ -28,3 +30,8 @@ shown c = outcomeOf (answered (c .answer)) (c .nodes) (c .records) (c .rows)
 
 unfoldable pub outcome : List ℕ → List ℕ → List ℕ → Job → List ℕ → Outcome
 outcome nodes records rows j s = shown (compileWords nodes records rows j s)
+
+-- 8 to 11 for a plan of so many cells, nodes, variables and rows and memories of these lengths; 0 where there is none
+unfoldable pub planRefusal : ℕ → ℕ → ℕ → ℕ → ℕ → ℕ → ℕ → ℕ
+planRefusal cells made t total nodes records rows =
+    cond (eqb cells 0) 8 (cond (ltb nodes (made * 3)) 9 (cond (ltb records (t * 4)) 10 (cond (ltb rows total) 11 0)))

@@ -1,9 +1,9 @@
 // The whole compiler: every refusal is ruled out before anything is written.
 ghost use mathlib.Core.Path.{_≡_};
-ghost use Prim.Native.Nat.{_<_, _+_, _*_};
+ghost use Prim.Native.Nat.{_≤_};
 ghost use Rattle.sheet_spec.specs.Job.{job};
 ghost use Rattle.cutting_spec.specs.Compile.{refused};
-ghost use Rattle.cutting.specs.Outcome.{answered, outcomeOf, outcome};
+ghost use Rattle.cutting.specs.Outcome.{answered, outcomeOf, outcome, planRefusal};
 use crate::Compilation;
 use crate::casts::narrow16;
 use crate::cells::write_cells;
@@ -29,6 +29,36 @@ fn refusal(number: u8) -> Compilation
     }
 }
 
+// The refusal, 8 to 11, of a plan of so many cells, nodes, variables and rows for memories of these lengths; 0 where there is none.
+fn plan_refusal(
+    cells: u8,
+    made: u16,
+    t: usize,
+    total: usize,
+    nodes: usize,
+    records: usize,
+    rows: usize,
+) -> u8
+    requires { ⌜ t ≤ 20 ⌝ }
+    ensures { λ r. ⌜ r ≡ planRefusal cells made t total nodes records rows ⌝ }
+{
+    if cells == 0 {
+        return 8;
+    }
+    let count = wide16(made) * 3;
+    let size = t * 4;
+    if nodes < count {
+        return 9;
+    }
+    if records < size {
+        return 10;
+    }
+    if rows < total {
+        return 11;
+    }
+    0
+}
+
 pub fn compile_all(
     n: usize,
     m: usize,
@@ -51,35 +81,37 @@ pub fn compile_all(
         return refusal(reduced.refusal);
     }
     let t = n + m;
-    let plan = plan_cells(t, k, l, order, &widths);
-    let cells = wide(plan.cells);
-    if cells == 0 {
-        return refusal(8);
-    }
-    let count = wide16(reduced.nodes) * 3;
-    let size = t * 4;
-    if nodes.len() < count {
-        return refusal(9);
-    }
-    if records.len() < size {
-        return refusal(10);
-    }
-    if rows.len() < plan.rows {
-        return refusal(11);
+    let lent_widths = &widths;
+    let plan = plan_cells(t, k, l, order, lent_widths);
+    let number = plan_refusal(
+        plan.cells,
+        reduced.nodes,
+        t,
+        plan.rows,
+        nodes.len(),
+        records.len(),
+        rows.len(),
+    );
+    if number != 0 {
+        return refusal(number);
     }
     let inputs = plan.inputs;
     let rails = plan.rails;
     let cuts = plan.cuts;
-    write_words(count, &words, nodes);
-    write_records(t, order, &rails, &cuts, cells + 1, records);
+    let cells = wide(plan.cells);
+    let lent_words = &words;
+    let lent_rails = &rails;
+    let lent_cuts = &cuts;
+    write_words(wide16(reduced.nodes) * 3, lent_words, nodes);
+    write_records(t, order, lent_rails, lent_cuts, cells + 1, records);
     write_cells(
         t,
-        &words,
+        lent_words,
         order,
-        &widths,
-        &rails,
+        lent_widths,
+        lent_rails,
         &inputs,
-        &cuts,
+        lent_cuts,
         cells,
         rows,
     );

@@ -12,10 +12,9 @@ use lib.ListN.{getD}
 use lib.Pow.{pow-mono}
 use borrow.Author.Tests.{leb-true, le-leb, eq-eqb}
 use Rattle.laws.proofs.Cases.{by-test, by-less, cond-yes, cond-both, and-split, and-join, and-left-no}
-use Rattle.laws.proofs.Picked.{count-not}
-use Rattle.sheet_spec.specs.Job.{Job, t, varAt, isInput, ins, outs}
+use Rattle.sheet_spec.specs.Job.{Job, t, ins, outs}
 use Rattle.sheet_spec.specs.Refusals.{notEachOnce}
-use Rattle.sheet_spec.proofs.Orders.{ins-rise, outs-rise, outs-all}
+use Rattle.sheet_spec.proofs.Orders.{ins-rise, outs-rise, outs-all, ins-outs}
 use Rattle.reduction_spec.proofs.NodeChildren.{ins-below}
 use Rattle.stored_spec.specs.Cells.{fits, rows, allFit, rowTotal}
 use Rattle.cutting_spec.specs.Cuts.{CutList, bottom, next, cellInputs, cellOutputs, cellBetween, cellsOf}
@@ -25,11 +24,6 @@ use Rattle.cutting_spec.proofs.RailCounts.{rails-least}
 
 pow-twice : (i : ℕ) → 2 ^ (i + 1) ≡ 2 * 2 ^ i
 pow-twice i = rw add-one (omega (arith, pow-suc 2 i))
-
--- each variable at the heights h to 1 is an input or an output
-pub ins-outs : (j : Job) (h : ℕ) → ins j h + outs j h ≡ h
-unfolding ins outs
-ins-outs j h = let e = count-not (λ k. isInput (varAt j (suc k))) h in omega arith
 
 -- the cells from h, where the list goes on at g
 pub cells-next : (j : Job) (ws : List ℕ) (h : ℕ) {g : ℕ} {l : List ℕ} → CutList g l → cellsOf j ws (h ∷ l) ≡ cellBetween j ws h g ∷ cellsOf j ws l

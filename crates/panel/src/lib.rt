@@ -4,8 +4,8 @@ ghost use mathlib.Core.Path.{_≡_};
 ghost use mathlib.Core.List.{[]};
 ghost use Rattle.sheet_spec.specs.Job.{job};
 ghost use Rattle.sheet_spec.specs.Refusals.{sheetRefusal};
-ghost use Rattle.sheet_spec.specs.Table.{tableAfter};
-ghost use Rattle.reduction_spec.specs.Reduction.{reduction, widthsAfter, wordsAfter};
+ghost use Rattle.sheet_spec.specs.Table.{tabled, fillTable};
+ghost use Rattle.reduction_spec.specs.Reduction.{reducedOf, reduceAs};
 ghost use Rattle.panel_calls.specs.Exported.{compiledOf, compileBytes};
 ghost use Rattle.panel_calls.specs.StateBytes.{called, newBytes, admitBytes, latchBytes, stepBytes};
 use panel_calls::StepNumbers;
@@ -41,8 +41,7 @@ pub extern "C" fn cascade_sheet_table(
     sheet: &[u8],
     table: &mut Table,
 ) -> u8
-    ensures { λ r. ⌜ r ≡ sheetRefusal (job n m k l (now (order .entry))) (now (sheet .entry)) ⌝ }
-    ensures { λ r. ⌜ now (table .exit) ≡ tableAfter (job n m k l (now (order .entry))) (now (sheet .entry)) (now (table .entry)) ⌝ }
+    ensures { λ r. ⌜ tabled r (now (table .exit)) ≡ fillTable (job n m k l (now (order .entry))) (now (sheet .entry)) (now (table .entry)) ⌝ }
 {
     sheet::fill_table(n, m, k, l, order, sheet, table)
 }
@@ -60,9 +59,9 @@ pub extern "C" fn cascade_reduce(
     widths: &mut Widths,
     words: &mut NodeWords,
 ) -> Reduction
-    ensures { λ r. ⌜ r ≡ reduction (job n m k l (now (order .entry))) (now (sheet .entry)) ⌝ }
-    ensures { λ _. ⌜ now (widths .exit) ≡ widthsAfter (job n m k l (now (order .entry))) (now (sheet .entry)) (now (widths .entry)) ⌝ }
-    ensures { λ _. ⌜ now (words .exit) ≡ wordsAfter (job n m k l (now (order .entry))) (now (sheet .entry)) (now (words .entry)) ⌝ }
+    ensures { λ r.
+        ⌜ reducedOf r (now (widths .exit)) (now (words .exit))
+        ≡ reduceAs (job n m k l (now (order .entry))) (now (sheet .entry)) (now (widths .entry)) (now (words .entry)) ⌝ }
 {
     reduction::reduce(n, m, k, l, order, sheet, widths, words)
 }

@@ -11,7 +11,7 @@ mod pass;
 
 ghost use mathlib.Core.Path.{_≡_};
 ghost use Rattle.sheet_spec.specs.Job.{job};
-ghost use Rattle.reduction_spec.specs.Reduction.{reduction, widthsAfter, wordsAfter};
+ghost use Rattle.reduction_spec.specs.Reduction.{reducedOf, reduceAs};
 use crate::node_words::copy_widths;
 use crate::node_words::copy_words;
 use crate::pass::reduce_all;
@@ -34,9 +34,9 @@ pub fn reduce(
     widths: &mut Widths,
     words: &mut NodeWords,
 ) -> Reduction
-    ensures { λ r. ⌜ r ≡ reduction (job n m k l (now (order .entry))) (now (sheet .entry)) ⌝ }
-    ensures { λ _. ⌜ now (widths .exit) ≡ widthsAfter (job n m k l (now (order .entry))) (now (sheet .entry)) (now (widths .entry)) ⌝ }
-    ensures { λ _. ⌜ now (words .exit) ≡ wordsAfter (job n m k l (now (order .entry))) (now (sheet .entry)) (now (words .entry)) ⌝ }
+    ensures { λ r.
+        ⌜ reducedOf r (now (widths .exit)) (now (words .exit))
+        ≡ reduceAs (job n m k l (now (order .entry))) (now (sheet .entry)) (now (widths .entry)) (now (words .entry)) ⌝ }
 {
     let mut made_widths = [0u16; MOST_VARIABLES];
     let mut made_words = [0u16; NODE_WORDS];

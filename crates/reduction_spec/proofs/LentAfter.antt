@@ -1,6 +1,6 @@
 -- What is copied into the lent widths and words is what the definitions say they hold after.
 -- Assumes nothing.
-use mathlib.Core.Path.{_≡_, sym, _∙_, ap}
+use mathlib.Core.Path.{_≡_, refl, sym, _∙_, ap}
 use mathlib.Core.Bool.{false}
 use mathlib.Core.List.{List}
 use Prim.Native.Nat.{ℕ, _*_, _<_, _≤_}
@@ -21,9 +21,13 @@ use Rattle.sheet_spec.proofs.LeastRefusal.{job-accepted}
 use Rattle.reduction_spec.specs.Columns.{width}
 use Rattle.reduction_spec.specs.Merge.{refuse7}
 use Rattle.reduction_spec.specs.Diagram.{nodeWords}
-use Rattle.reduction_spec.specs.Reduction.{Reduction, reductionRefusal, finalTable, finalWidths, finalNodes, reduction, widthsAfter, wordsAfter}
+use Rattle.reduction_spec.specs.Reduction.{Reduction, reducedOf, reductionRefusal, finalTable, finalWidths, finalNodes, reduction, widthsAfter, wordsAfter}
 use Rattle.reduction_spec.proofs.NodeWords.{length-nodeWords}
 use Rattle.reduction_spec.proofs.AcceptedSheet.{nodes-fit}
+
+-- the answer and what is lent after, put together
+pub same-reduced : {a b : Reduction} {w v x y : List ℕ} → a ≡ b → w ≡ v → x ≡ y → reducedOf a w x ≡ reducedOf b v y
+same-reduced p q r = rw (p, q, r) refl
 
 module _ (j : Job) (s : List ℕ) where
   pub refusal-is : (r : Reduction) → r ≡ reduction j s → r .refusal ≡ reductionRefusal j s

@@ -44,3 +44,15 @@ widthsAfter j s old = let made = sets old 0 (finalWidths j s) in cond (eqb (redu
 
 unfoldable pub wordsAfter : Job → List ℕ → List ℕ → List ℕ
 wordsAfter j s old = let made = sets old 0 (nodeWords (finalNodes j s)) in cond (eqb (reductionRefusal j s) 0) made old
+
+-- the answer, and each lent memory after
+pub record Reduced : Type 0 where
+  pub answer : Reduction
+  pub widths : List ℕ
+  pub words : List ℕ
+
+abbrev pub reducedOf : Reduction → List ℕ → List ℕ → Reduced
+reducedOf a widths words = record { answer = a; widths = widths; words = words }
+
+abbrev pub reduceAs : Job → List ℕ → List ℕ → List ℕ → Reduced
+reduceAs j s widths words = reducedOf (reduction j s) (widthsAfter j s widths) (wordsAfter j s words)

@@ -9,7 +9,7 @@ mod records;
 ghost use mathlib.Core.Path.{_≡_};
 ghost use Rattle.sheet_spec.specs.Job.{job};
 ghost use Rattle.sheet_spec.specs.Refusals.{sheetRefusal};
-ghost use Rattle.sheet_spec.specs.Table.{tableAfter};
+ghost use Rattle.sheet_spec.specs.Table.{tabled, fillTable};
 use sheet_spec::Table;
 
 // The least of refusals 1 to 6 that the job and its sheet are given; 0 where there is none.
@@ -47,8 +47,7 @@ pub fn fill_table(
     sheet: &[u8],
     table: &mut Table,
 ) -> u8
-    ensures { λ r. ⌜ r ≡ sheetRefusal (job n m k l (now (order .entry))) (now (sheet .entry)) ⌝ }
-    ensures { λ r. ⌜ now (table .exit) ≡ tableAfter (job n m k l (now (order .entry))) (now (sheet .entry)) (now (table .entry)) ⌝ }
+    ensures { λ r. ⌜ tabled r (now (table .exit)) ≡ fillTable (job n m k l (now (order .entry))) (now (sheet .entry)) (now (table .entry)) ⌝ }
 {
     let r = refusal(n, m, k, l, order, sheet);
     if r == 0 {

@@ -13,7 +13,7 @@ use Rattle.laws.specs.Tests.{count}
 use Rattle.laws.proofs.Cases.{by-test, no-test, same-test, cond-not}
 use Rattle.laws.proofs.Tests.{every-at}
 use Rattle.laws.proofs.Counts.{count-ext, count-more, count-rise}
-use Rattle.laws.proofs.Picked.{count-back, count-cover, count-once, count-before, count-place, picked-length, picked-at, picked-from, picked-distinct, among, among-at, count-among}
+use Rattle.laws.proofs.Picked.{count-not, count-back, count-cover, count-once, count-before, count-place, picked-length, picked-at, picked-from, picked-distinct, among, among-at, count-among}
 use Rattle.sheet_spec.specs.Job.{Job, t, isInput, varAt, ins, outs, inputsTo, outputsTo}
 use Rattle.sheet_spec.specs.Refusals.{times, eachOnce, notEachOnce}
 use Rattle.sheet_spec.proofs.RecordFields.{order-tests, order-length}
@@ -168,3 +168,8 @@ module _ (j : Job) where
     pub outs-all : outs j (t j) ≡ j .m
     unfolding outs
     outs-all = picked-outputs (j .n) (j .m) (j .order) once few out
+
+-- each variable at the heights h to 1 is an input or an output
+pub ins-outs : (j : Job) (h : ℕ) → ins j h + outs j h ≡ h
+unfolding ins outs
+ins-outs j h = let e = count-not (λ k. isInput (varAt j (suc k))) h in omega arith

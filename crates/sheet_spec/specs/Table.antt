@@ -26,3 +26,14 @@ table j s = tableOf (j .n) (j .m) (j .order) s
 -- a lent table after: the function's table is stored from its front on where no refusal is given, else it is as it was
 unfoldable pub tableAfter : Job → List ℕ → List ℕ → List ℕ
 tableAfter j s old = cond (eqb (sheetRefusal j s) 0) (sets old 0 (table j s)) old
+
+-- the answer, and the lent table after
+pub record Tabled : Type 0 where
+  pub refusal : ℕ
+  pub table : List ℕ
+
+abbrev pub tabled : ℕ → List ℕ → Tabled
+tabled n f = record { refusal = n; table = f }
+
+abbrev pub fillTable : Job → List ℕ → List ℕ → Tabled
+fillTable j s old = tabled (sheetRefusal j s) (tableAfter j s old)

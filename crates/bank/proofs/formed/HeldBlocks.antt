@@ -74,13 +74,9 @@ module _ (k : Bank) (b : ℕ) where
       rails-at-most = few-rails (recordsOf k b) cell told
 
       -- the upper rails u that a call gives
-      module _ {n u : ℕ} {r : CellRails} (s : n ≡ getD (k .lengths) b 0)
-          (h : r ≡ cellRails (take (b * 80 + n * 4 - b * 80) (drop (b * 80) (k .records))) cell) (g : u ≡ r .upper) where
+      module _ {u : ℕ} {r : CellRails} (h : r ≡ cellRails (recordsOf k b) cell) (g : u ≡ r .upper) where
         pub upper-is : u ≡ cellAt (recordsOf k b) cell .upper
-        upper-is =
-            g
-            ∙ ap (λ (c : CellRails). c .upper)
-            (h ∙ ap (λ (R : List ℕ). cellRails R cell) (part-is s) ∙ sym (some-rails (recordsOf k b) cell (rails-told (recordsOf k b) cell told)))
+        upper-is = g ∙ ap (λ (c : CellRails). c .upper) (h ∙ sym (some-rails (recordsOf k b) cell (rails-told (recordsOf k b) cell told)))
 
         pub words-at-most : 2 ^ u ≤ 4096
         words-at-most = pow-mono {j = 12} (omega (arith, upper-is, rails-at-most))

@@ -59,7 +59,7 @@ module _ (k : Bank) (s : Scan) (e : formed k s ≡ true) (on : s .running ≡ tr
   pub block-below : s .block < 8
   block-below = omega (arith, block-held, held .few)
 
-  block-formed : blockFormed k (s .block) ≡ true
+  pub block-formed : blockFormed k (s .block) ≡ true
   block-formed = held .blocks (s .block) block-held
 
   cell-held : s .cell < cellCount records

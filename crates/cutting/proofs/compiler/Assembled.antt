@@ -1,16 +1,16 @@
 -- The whole compiler: what each step of it needs and gives, from the reduction's answer to the three memories.
 -- Assumes nothing.
-use mathlib.Core.Path.{_≡_, sym, _∙_, ap, ap₂}
+use mathlib.Core.Path.{_≡_, refl, sym, _∙_, ap, ap₂}
 use mathlib.Core.Bool.{true, false}
 use mathlib.Core.List.{List}
-use Prim.Native.Nat.{ℕ, _+_, _-_, _*_, _<_, _≤_}
+use Prim.Native.Nat.{ℕ, _+_, _-_, _*_, _^_, _<_, _≤_}
 use native.Mathlib.Omega.{arith}
 use borrow.Author.Tests.{eq-eqb, ne-eqb}
 use lib.Dec.{eqb}
 use lib.ListN.{length, getD, replicate}
 use lib.Seq.{sets}
 use Rattle.laws.specs.Lists.{joined, puts, written}
-use Rattle.laws.proofs.Cases.{and-split}
+use Rattle.laws.proofs.Cases.{and-split, by-less, by-equal}
 use Rattle.laws.proofs.Filled.{written-sets}
 use Rattle.laws.proofs.Puts.{puts-ext, copied}
 use Rattle.sheet_spec.specs.Job.{Job, t, ins}
@@ -34,7 +34,7 @@ use Rattle.cutting_spec.specs.Compile as compiler
 use Rattle.cutting_spec.specs.Compile.{widthsOf, made, totals, refused}
 use Rattle.cutting.specs.Plan.{Plan, planned, widthUp, firstIn, recordIn, rowsTo, Writable, rowsStored}
 use Rattle.cutting.specs.RowWalks.{firstAt}
-use Rattle.cutting.specs.Outcome.{Compilation, answered, outcomeOf, outcome}
+use Rattle.cutting.specs.Outcome.{Compilation, answered, outcomeOf, outcome, planRefusal}
 use Rattle.cutting_spec.proofs.StoredWell.{all-more, job-limits}
 use Rattle.cutting_spec.proofs.ChosenCuts.{chosen-admissible}
 use Rattle.cutting_spec.proofs.MadeCascade.{made-cuts}
@@ -45,6 +45,33 @@ use Rattle.cutting.proofs.plan.PlanOfCascade.{plan, widths-answered, up
 use Rattle.cutting.proofs.plan.PlannedRows.{rows-counted, cell-writable, rows-stored}
 use Rattle.cutting.proofs.Outcomes.{outcome-early, outcome-8, outcome-9, outcome-10, outcome-11, outcome-accepted}
 use Rattle.cutting.proofs.Enough.{rows-few}
+use Rattle.cutting.proofs.compiler.PlanRefusals.{is-8, is-9, is-10, is-11, is-0, has-cells, holds-nodes, holds-records, holds-rows}
+
+pub three-fit : (n : ℕ) → n < 65536 → n * 3 < 2 ^ 64
+three-fit n h = omega arith
+
+pub one-fits : (n : ℕ) → n < 256 → n + 1 < 2 ^ 64
+one-fits n h = omega arith
+
+-- what holds of a plan that is not refused
+pub record Kept (j : Job) (s : List ℕ) (r : Reduction) (ws words : List ℕ) (p : Plan) (nodes records rows : List ℕ) : Type 0 where
+  pub variables : t j ≤ 20
+  pub whole : length (j .order) ≡ t j
+  pub words-few : r .nodes * 3 ≤ 30720
+  pub cells-few : p .cells ≤ 20
+  pub rows-few : p .rows < 65536
+  pub nodes-fit : r .nodes * 3 ≤ length nodes
+  pub records-fit : t j * 4 ≤ length records
+  pub rows-fit : rowsTo (p .rails) (p .inputs) (p .cuts) (p .cells) ≤ length rows
+  pub columns : (g : ℕ) → g ≤ t j → widthUp (t j) ws g ≤ 512
+  pub writable : (i : ℕ) → i < p .cells
+      → Writable (t j) words (j .order) ws (p .rails) (p .inputs) (getD (p .cuts) i 0) (getD (p .cuts) (i + 1) 0)
+  pub stored : (nodes′ records′ rows″ : List ℕ) (rows′ : ℕ) → rows′ ≡ p .rows
+      → nodes′ ≡ puts (r .nodes * 3) (λ i. getD words i 0) nodes
+      → records′ ≡ sets records 0 (joined (t j) (recordIn (t j) (j .order) (p .rails) (p .cuts) (p .cells + 1)))
+      → rows″ ≡ rowsStored (t j) words (j .order) ws (p .rails) (p .inputs) (p .cuts) (p .cells) rows
+      → outcomeOf (record { refusal = 0; nodes = r .nodes; cells = p .cells; rows = rows′; bits = p .bits; widths = ws }) nodes′ records′ rows″
+      ≡ outcome nodes records rows j s
 
 module _ (j : Job) (s : List ℕ) (r : Reduction) (is : r ≡ reduction j s) where
   -- 1 to 7
@@ -75,7 +102,7 @@ module _ (j : Job) (s : List ℕ) (r : Reduction) (is : r ≡ reduction j s) whe
     unfolding made finalNodes finalTable
     node-words = length-nodeWords (cascade .nodes) ∙ ap (λ (n : ℕ). n * 3) (sym (node-count j s reads r is))
 
-    pub words-few : r .nodes * 3 ≤ 30720
+    words-few : r .nodes * 3 ≤ 30720
     words-few = omega (arith, node-count j s reads r is, nodes-few j s reads)
 
     -- the plan
@@ -84,13 +111,13 @@ module _ (j : Job) (s : List ℕ) (r : Reduction) (is : r ≡ reduction j s) whe
       planned-is : p ≡ plan j s e slim
       planned-is = p-is ∙ ap (planned (t j) (j .K) (j .L) (j .order)) ws-is
 
-      pub cells-few : cells ≤ 20
+      cells-few : cells ≤ 20
       cells-few = omega (arith, cells-are, ap (λ (q : Plan). q .cells) planned-is, plan-few j s e slim)
 
       none-is : refuse8 j (made j (table j s) .widths) ≡ eqb cells 0
       none-is = plan-none j s e slim ∙ ap (λ (q : Plan). eqb (q .cells) 0) (sym planned-is) ∙ ap (λ (n : ℕ). eqb n 0) (sym cells-are)
 
-      pub refused-8 : cells ≡ 0 → (nodes records rows : List ℕ) (a : Compilation) → a ≡ answered (refused 8)
+      refused-8 : cells ≡ 0 → (nodes records rows : List ℕ) (a : Compilation) → a ≡ answered (refused 8)
           → outcomeOf a nodes records rows ≡ outcome nodes records rows j s
       refused-8 z nodes records rows a q =
           ap (λ (x : Compilation). outcomeOf x nodes records rows) q ∙ outcome-8 nodes records rows j s e slim (none-is ∙ eq-eqb cells 0 z)
@@ -148,10 +175,10 @@ module _ (j : Job) (s : List ℕ) (r : Reduction) (is : r ≡ reduction j s) whe
             ∙ ap₂ (λ (q : Plan) (n : ℕ). rowsTo (q .rails) (q .inputs) (q .cuts) n) (sym p-is) (sym (ap (λ (q : Plan). q .cells) p-is) ∙ sym cells-are ∙ sym last)
             ∙ rows-counted j s e slim ws (p .rails) (p .inputs) (p .cuts) l words falls fit widths-are firsts-are rails-are inputs-are cuts-are same
 
-        pub rows-small : p .rows ≤ 32768
+        rows-small : p .rows ≤ 32768
         rows-small = omega (arith, rows-are, rows-few j s kept)
 
-        pub rows-fit : (rows : List ℕ) → p .rows ≤ length rows → rowsTo (p .rails) (p .inputs) (p .cuts) cells ≤ length rows
+        rows-fit : (rows : List ℕ) → p .rows ≤ length rows → rowsTo (p .rails) (p .inputs) (p .cuts) cells ≤ length rows
         unfolding planned
         rows-fit rows h =
             let here : p .rows ≡ rowsTo (p .rails) (p .inputs) (p .cuts) cells =
@@ -159,10 +186,10 @@ module _ (j : Job) (s : List ℕ) (r : Reduction) (is : r ≡ reduction j s) whe
             ∙ ap₂ (λ (q : Plan) (n : ℕ). rowsTo (q .rails) (q .inputs) (q .cuts) n) (sym p-is) (sym (ap (λ (q : Plan). q .cells) p-is) ∙ sym cells-are) in
             omega (arith, here)
 
-        pub columns-few : (g : ℕ) → g ≤ t j → widthUp (t j) ws g ≤ 512
+        columns-few : (g : ℕ) → g ≤ t j → widthUp (t j) ws g ≤ 512
         columns-few g h = omega (arith, ap (λ (x : List ℕ). widthUp (t j) x g) ws-is, up-small j s e slim g h)
 
-        pub writable : (i : ℕ) → i < cells
+        writable : (i : ℕ) → i < cells
             → Writable (t j) words (j .order) ws (p .rails) (p .inputs) (getD (p .cuts) i 0) (getD (p .cuts) (i + 1) 0)
         unfolding made
         writable i h =
@@ -171,7 +198,7 @@ module _ (j : Job) (s : List ℕ) (r : Reduction) (is : r ≡ reduction j s) whe
 
         -- the memories
         module _ (nodes records rows : List ℕ) where
-          pub refused-9 : length nodes < r .nodes * 3 → (a : Compilation) → a ≡ answered (refused 9)
+          refused-9 : length nodes < r .nodes * 3 → (a : Compilation) → a ≡ answered (refused 9)
               → outcomeOf a nodes records rows ≡ outcome nodes records rows j s
           refused-9 h a q =
               ap (λ (x : Compilation). outcomeOf x nodes records rows) q
@@ -181,14 +208,14 @@ module _ (j : Job) (s : List ℕ) (r : Reduction) (is : r ≡ reduction j s) whe
             fits : length (nodeWords (made j (table j s) .nodes)) ≤ length nodes
             fits = omega (arith, node-words)
 
-            pub refused-10 : length records < t j * 4 → (a : Compilation) → a ≡ answered (refused 10)
+            refused-10 : length records < t j * 4 → (a : Compilation) → a ≡ answered (refused 10)
                 → outcomeOf a nodes records rows ≡ outcome nodes records rows j s
             refused-10 h a q =
                 ap (λ (x : Compilation). outcomeOf x nodes records rows) q
                 ∙ outcome-10 nodes records rows j s e slim kept fits (omega arith)
 
             module _ (space : t j * 4 ≤ length records) where
-              pub refused-11 : length rows < p .rows → (a : Compilation) → a ≡ answered (refused 11)
+              refused-11 : length rows < p .rows → (a : Compilation) → a ≡ answered (refused 11)
                   → outcomeOf a nodes records rows ≡ outcome nodes records rows j s
               refused-11 h a q =
                   ap (λ (x : Compilation). outcomeOf x nodes records rows) q
@@ -232,7 +259,7 @@ module _ (j : Job) (s : List ℕ) (r : Reduction) (is : r ≡ reduction j s) whe
                     ws-is ∙ widths-answered j s e slim,
                   )
 
-              pub accepted-all : p .rows ≤ length rows → (nodes′ records′ rows″ : List ℕ) (count rows′ : ℕ) → count ≡ r .nodes * 3 → rows′ ≡ p .rows
+              accepted-all : p .rows ≤ length rows → (nodes′ records′ rows″ : List ℕ) (count rows′ : ℕ) → count ≡ r .nodes * 3 → rows′ ≡ p .rows
                   → nodes′ ≡ puts count (λ i. getD words i 0) nodes
                   → records′ ≡ sets records 0 (joined (t j) (recordIn (t j) (j .order) (p .rails) (p .cuts) (cells + 1)))
                   → rows″ ≡ rowsStored (t j) words (j .order) ws (p .rails) (p .inputs) (p .cuts) cells rows
@@ -242,3 +269,76 @@ module _ (j : Job) (s : List ℕ) (r : Reduction) (is : r ≡ reduction j s) whe
                   let enough : length (made j (table j s) .rows) ≤ length rows = omega (arith, rows-are) in
                   rw (a ∙ ap (λ (k : ℕ). puts k (λ i. getD words i 0) nodes) n ∙ words-written, b ∙ records-put, c ∙ rows-put enough, answer-is rows′ q)
                   (outcome-accepted nodes records rows j s e slim kept fits (omega arith) enough)
+
+      -- the plan is refused, or its three memories are long enough
+      module _ (nodes records rows : List ℕ) where
+        abbrev late : ℕ
+        late = planRefusal (p .cells) (r .nodes) (t j) (p .rows) (length nodes) (length records) (length rows)
+
+        pub refused-late : (number : ℕ) → number ≡ planRefusal (p .cells) (r .nodes) (t j) (p .rows) (length nodes) (length records) (length rows)
+            → (number ≡ 0 → ⊥) → (a : Compilation) → a ≡ answered (refused number) → outcomeOf a nodes records rows ≡ outcome nodes records rows j s
+        refused-late number late-is h a q =
+            let gives : (n : ℕ) → late ≡ n → a ≡ answered (refused n) = λ n x. q ∙ ap (λ (i : ℕ). answered (refused i)) (late-is ∙ x) in
+            by-equal cells 0
+            (λ z. refused-8 z nodes records rows a (gives 8 (is-8 _ _ _ _ _ _ _ (sym cells-are ∙ z))))
+            (λ some.
+            let has : p .cells ≡ 0 → ⊥ = λ z. some (cells-are ∙ z) in
+            by-less (length nodes) (r .nodes * 3)
+            (λ x. refused-9 some nodes records rows x a (gives 9 (is-9 _ _ _ _ _ _ _ has x)))
+            (λ room.
+            by-less (length records) (t j * 4)
+            (λ x. refused-10 some nodes records rows room x a (gives 10 (is-10 _ _ _ _ _ _ _ has room x)))
+            (λ space.
+            by-less (length rows) (p .rows)
+            (λ x. refused-11 some nodes records rows room space x a (gives 11 (is-11 _ _ _ _ _ _ _ has room space x)))
+            (λ x. absurd (h (late-is ∙ is-0 _ _ _ _ _ _ _ has room space x))))))
+
+    pub plan-kept : (ws words : List ℕ) → ws ≡ widthsAfter j s (replicate 20 0) → words ≡ wordsAfter j s (replicate 30720 0)
+        → (p : Plan) → p ≡ planned (t j) (j .K) (j .L) (j .order) ws → (nodes records rows : List ℕ) (number : ℕ)
+        → number ≡ planRefusal (p .cells) (r .nodes) (t j) (p .rows) (length nodes) (length records) (length rows) → number ≡ 0
+        → Kept j s r ws words p nodes records rows
+    plan-kept ws words ws-is words-is p p-is nodes records rows number late-is zero =
+        let z : planRefusal (p .cells) (r .nodes) (t j) (p .rows) (length nodes) (length records) (length rows) ≡ 0 = sym late-is ∙ zero in
+        let some = has-cells _ _ _ _ _ _ _ z in
+        let room = holds-nodes _ _ _ _ _ _ _ z in
+        let space = holds-records _ _ _ _ _ _ _ z in
+        let enough = holds-rows _ _ _ _ _ _ _ z in
+        record {
+          variables = limits .0;
+          whole = limits .3;
+          words-few = words-few;
+          cells-few = cells-few ws words ws-is words-is p p-is (p .cells) refl;
+          rows-few = omega (arith, rows-small ws words ws-is words-is p p-is (p .cells) refl some);
+          nodes-fit = room;
+          records-fit = space;
+          rows-fit = rows-fit ws words ws-is words-is p p-is (p .cells) refl some rows enough;
+          columns = columns-few ws words ws-is words-is p p-is (p .cells) refl some;
+          writable = writable ws words ws-is words-is p p-is (p .cells) refl some;
+          stored =
+              λ nodes′ records′ rows″ rows′ q. accepted-all ws words ws-is words-is p p-is (p .cells) refl some nodes records rows room space enough nodes′ records′ rows″
+              (r .nodes * 3) rows′ refl q;
+        }
+
+module _ {j : Job} {s : List ℕ} {r : Reduction} {ws words : List ℕ} {p : Plan} {nodes records rows : List ℕ} (h : Kept j s r ws words p nodes records rows) where
+  pub words-fit : (made : ℕ) → made ≡ r .nodes → (made * 3 ≤ 30720) × (made * 3 ≤ length nodes)
+  words-fit made e = rw e (h .words-few, h .nodes-fit)
+
+  module _ (cells : ℕ) (e : cells ≡ p .cells) where
+    pub records-fit : (t j ≤ 20) × (length (j .order) ≡ t j) × (cells + 1 ≤ 21) × (t j * 4 ≤ length records)
+    records-fit = let few = h .cells-few in (h .variables, h .whole, omega (arith, few), h .records-fit)
+
+    pub cells-fit : (t j ≤ 20) × (cells ≤ 20) × ((g : ℕ) → g ≤ t j → widthUp (t j) ws g ≤ 512)
+        × ((i : ℕ) → i < cells → Writable (t j) words (j .order) ws (p .rails) (p .inputs) (getD (p .cuts) i 0) (getD (p .cuts) (i + 1) 0))
+        × (rowsTo (p .rails) (p .inputs) (p .cuts) cells ≤ length rows)
+    cells-fit = rw e (h .variables, h .cells-few, h .columns, h .writable, h .rows-fit)
+
+    pub accepted-late : (nodes′ records′ rows″ : List ℕ) (made rows′ : ℕ) → made ≡ r .nodes → rows′ ≡ p .rows
+        → nodes′ ≡ puts (made * 3) (λ i. getD words i 0) nodes
+        → records′ ≡ sets records 0 (joined (t j) (recordIn (t j) (j .order) (p .rails) (p .cuts) (cells + 1)))
+        → rows″ ≡ rowsStored (t j) words (j .order) ws (p .rails) (p .inputs) (p .cuts) cells rows
+        → outcomeOf (record { refusal = 0; nodes = r .nodes; cells = p .cells; rows = rows′; bits = p .bits; widths = ws }) nodes′ records′ rows″
+        ≡ outcome nodes records rows j s
+    accepted-late nodes′ records′ rows″ made rows′ d q a b c =
+        h .stored nodes′ records′ rows″ rows′ q (a ∙ ap (λ (n : ℕ). puts (n * 3) (λ i. getD words i 0) nodes) d)
+        (b ∙ ap (λ (n : ℕ). sets records 0 (joined (t j) (recordIn (t j) (j .order) (p .rails) (p .cuts) (n + 1)))) e)
+        (c ∙ ap (λ (n : ℕ). rowsStored (t j) words (j .order) ws (p .rails) (p .inputs) (p .cuts) n rows) e)

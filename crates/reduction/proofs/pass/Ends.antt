@@ -49,7 +49,7 @@ module _ (j : Job) (s : List ℕ) (e : sheetRefusal j s ≡ 0) where
   small = table-below (j .n) (j .m) (j .order) s
 
   -- what the pass holds
-  abbrev pub At : (k a b w at : ℕ) (zs os widths words : List ℕ) → Type 0
+  abbrev pub At : (k a w at : ℕ) (zs os widths words : List ℕ) → Type 0
   At = Stage j (read .order-whole) (read .inputs) (read .outputs) (table j s) small
 
   -- the table as it was written into zeros
@@ -100,12 +100,11 @@ module _ (j : Job) (s : List ℕ) (e : sheetRefusal j s ≡ 0) where
 
   pub start : (zs os : List ℕ) → zs ≡ puts 512 (packedWord (placesWith (tableAfter j s (replicate 32768 0)) (j .n) (j .m) 0)) (replicate 1024 0)
       → os ≡ puts 512 (packedWord (placesWith (tableAfter j s (replicate 32768 0)) (j .n) (j .m) 1)) (replicate 1024 0)
-      → At 0 (j .n) (j .m) 1 0 zs os (replicate 20 0) (replicate 30720 0)
+      → At 0 (j .n) 1 0 zs os (replicate 20 0) (replicate 30720 0)
   unfolding topNodes merged
   start zs os ez eo =
       record {
         inputs = sym top-ins;
-        outputs = sym top-outs;
         columns = sym top-width;
         few-columns = omega arith;
         counted = refl;
@@ -120,7 +119,7 @@ module _ (j : Job) (s : List ℕ) (e : sheetRefusal j s ≡ 0) where
       }
 
   -- the end
-  module _ (a b w at : ℕ) (zs os widths words : List ℕ) (st : At (t j) a b w at zs os widths words) where
+  module _ (a w at : ℕ) (zs os widths words : List ℕ) (st : At (t j) a w at zs os widths words) where
     pub end-count : at ≡ length (finalNodes j s)
     unfolding finalNodes finalTable
     end-count =

@@ -64,9 +64,8 @@ module _ (j : Job) (once : notEachOnce (j .n) (j .m) (j .order) ≡ false) (few 
       Plane (ins j (t j - k)) (outs j (t j - k)) (width j (merged j f k) (t j - k))
       (λ c q x. eqb (entry (j .n) (ins j (t j - k)) (merged j f k) (getD (firstsAt j (merged j f k) (t j - k)) c 0) q x) v) zs
 
-  pub record Stage (k a b w at : ℕ) (zs os widths words : List ℕ) : Type 0 where
+  pub record Stage (k a w at : ℕ) (zs os widths words : List ℕ) : Type 0 where
     pub inputs : a ≡ ins j (t j - k)
-    pub outputs : b ≡ outs j (t j - k)
     pub columns : w ≡ width j (merged j f k) (t j - k)
     pub few-columns : w ≤ 512
     pub counted : at ≡ sum k (λ i. widthIn (layers j (reduced j f)) (t j - i))
@@ -79,7 +78,7 @@ module _ (j : Job) (once : notEachOnce (j .n) (j .m) (j .order) ≡ false) (few 
     pub widths-are : (i : ℕ) → i < k → getD widths (t j - suc i) 0 ≡ width j (reduced j f) (t j - suc i)
     pub words-are : words ≡ sets (replicate 30720 0) 0 (nodeWords (topNodes j once few out f k))
 
-  module _ (k a b w at : ℕ) (zs os widths words : List ℕ) (s : Stage k a b w at zs os widths words) (l : k < t j) where
+  module _ (k a w at : ℕ) (zs os widths words : List ℕ) (s : Stage k a w at zs os widths words) (l : k < t j) where
     abbrev H : ℕ
     H = t j - suc k
 
@@ -282,12 +281,11 @@ module _ (j : Job) (once : notEachOnce (j .n) (j .m) (j .order) ≡ false) (few 
             (getD-set-same widths H r 0 (omega (arith, s .widths-length, few, out)) ∙ answer ∙ sym (width-at j once few out f (suc k) l)))
             (λ b. getD-set-other widths H (t j - suc i) r 0 (λ z. absurd (omega arith)) ∙ s .widths-are i b)
 
-        pub next : Stage (suc k) (ins j (t j - suc k)) (outs j (t j - suc k)) r (at + w) zs′ os′ (set widths (t j - suc k) r) words′
+        pub next : Stage (suc k) (ins j (t j - suc k)) r (at + w) zs′ os′ (set widths (t j - suc k) r) words′
         unfolding width firstsAt merged mergeAt
         next =
             record {
               inputs = refl;
-              outputs = refl;
               columns = answer;
               few-columns = h;
               counted = next-count;

@@ -1,19 +1,18 @@
 -- `cutting::compiler::compile_all` meets its contract.
 -- Assumes nothing.
-use mathlib.Core.Path.{_≡_, ap}
-use Prim.Native.Nat.{ℕ, _*_}
+use mathlib.Core.Path.{refl, ap}
 use native.Mathlib.Omega.{arith}
 use Rattle.sheet_spec.specs.Job.{job}
-use Rattle.cutting.proofs.compiler.Assembled.{refused-early, limits, words-few, cells-few, refused-8, refused-9, refused-10, refused-11, rows-small, rows-fit, columns-few, writable, accepted-all}
-use borrow.Author.Needs.{needs}
+use Rattle.reduction_spec.specs.Reduction.{Reduced}
+use Rattle.cutting.proofs.compiler.Assembled.{three-fit, one-fits, refused-early, limits, refused-late, Kept, plan-kept, words-fit, records-fit, cells-fit, accepted-late}
 use Rattle.cutting.proofs.compiler.compile_all.Statement.{statement}
 use Rattle.cutting.proofs.compiler.compile_all.Tie as tie
 
 reduce-requires : tie.Need-reduce-requires
-reduce-requires c κs = search needs
+reduce-requires c κs = tt
 
 refusal-requires : tie.Need-refusal-requires
-refusal-requires c κs = search needs
+refusal-requires c κs = tt
 
 returns : tie.Need-returns
 returns c =
@@ -21,7 +20,7 @@ returns c =
     let j = job (a .n) (a .m) (a .k) (a .l) (a .order .now) in
     let s = a .sheet .now in
     let r = c .before .before .before .reduce in
-    refused-early j s (r .result) (r .ensures .0) (c .before .if1 .taken) _ _ _ _ (c .refusal .ensures)
+    refused-early j s (r .result) (ap (λ (x : Reduced). x .answer) (r .ensures)) (c .before .if1 .taken) _ _ _ _ (c .refusal .ensures)
 
 add-t : tie.Need-add-t
 add-t c =
@@ -29,7 +28,7 @@ add-t c =
     let j = job (a .n) (a .m) (a .k) (a .l) (a .order .now) in
     let s = a .sheet .now in
     let r = c .before .before .reduce in
-    omega (arith, limits j s (r .result) (r .ensures .0) (c .if1 .left) .0)
+    omega (arith, limits j s (r .result) (ap (λ (x : Reduced). x .answer) (r .ensures)) (c .if1 .left) .0)
 
 plan-cells-requires : tie.Need-plan-cells-requires
 plan-cells-requires c κs =
@@ -37,13 +36,18 @@ plan-cells-requires c κs =
     let j = job (a .n) (a .m) (a .k) (a .l) (a .order .now) in
     let s = a .sheet .now in
     let r = c .before .before .before .reduce in
-    limits j s (r .result) (r .ensures .0) (c .before .if1 .left)
+    limits j s (r .result) (ap (λ (x : Reduced). x .answer) (r .ensures)) (c .before .if1 .left)
 
-wide-requires : tie.Need-wide-requires
-wide-requires c κs = search needs
+plan-refusal-requires : tie.Need-plan-refusal-requires
+plan-refusal-requires c κs =
+    let a = c .before .before .before .before .before .before .before .before .before .before .before .before .args in
+    let j = job (a .n) (a .m) (a .k) (a .l) (a .order .now) in
+    let s = a .sheet .now in
+    let r = c .before .before .before .before .reduce in
+    limits j s (r .result) (ap (λ (x : Reduced). x .answer) (r .ensures)) (c .before .before .if1 .left) .0
 
 refusal-requires-2 : tie.Need-refusal-requires-2
-refusal-requires-2 c κs = search needs
+refusal-requires-2 c κs = tt
 
 returns-2 : tie.Need-returns-2
 returns-2 c =
@@ -52,131 +56,58 @@ returns-2 c =
     let s = a .sheet .now in
     let r = c .before .before .before .before .before .before .before .reduce in
     let p = c .before .before .before .plan-cells in
-    let w = c .before .before .wide in
-    refused-8 j s (r .result) (r .ensures .0) (c .before .before .before .before .before .if1 .left) _ _ (r .ensures .1 .0) (r .ensures .1 .1) (p .result) (p .ensures) (w .result) (w .ensures .0) (c .before .if2 .taken) _ _ _ _ (c .refusal2 .ensures)
+    let q = c .before .before .plan-refusal in
+    refused-late j s (r .result) (ap (λ (x : Reduced). x .answer) (r .ensures)) (c .before .before .before .before .before .if1 .left) _ _ (ap (λ (x : Reduced). x .widths) (r .ensures)) (ap (λ (x : Reduced). x .words) (r .ensures)) (p .result) (p .ensures) _ refl (a .nodes .now) (a .records .now) (a .rows .now) (q .result) (q .ensures) (c .before .if2 .taken) _ (c .refusal2 .ensures)
+
+-- where nothing is refused
+kept-here : (c : tie.Else2)
+    → Kept
+    (job (c .before .before .before .before .before .before .before .before .before .before .before .before .before .before .args .n) (c .before .before .before .before .before .before .before .before .before .before .before .before .before .before .args .m) (c .before .before .before .before .before .before .before .before .before .before .before .before .before .before .args .k) (c .before .before .before .before .before .before .before .before .before .before .before .before .before .before .args .l) (c .before .before .before .before .before .before .before .before .before .before .before .before .before .before .args .order .now)) (c .before .before .before .before .before .before .before .before .before .before .before .before .before .before .args .sheet .now)
+    (c .before .before .before .before .before .before .reduce .result) (c .before .before .before .before .before .before .reduce .last .1 .1 .1 .1 .1 .1 .0) (c .before .before .before .before .before .before .reduce .last .1 .1 .1 .1 .1 .1 .1 .0)
+    (c .before .before .plan-cells .result) (c .before .before .before .before .before .before .before .before .before .before .before .before .before .before .args .nodes .now) (c .before .before .before .before .before .before .before .before .before .before .before .before .before .before .args .records .now) (c .before .before .before .before .before .before .before .before .before .before .before .before .before .before .args .rows .now)
+kept-here c =
+    let r = c .before .before .before .before .before .before .reduce in
+    let p = c .before .before .plan-cells in
+    let q = c .before .plan-refusal in
+    plan-kept _ _ (r .result) (ap (λ (x : Reduced). x .answer) (r .ensures)) (c .before .before .before .before .if1 .left) _ _ (ap (λ (x : Reduced). x .widths) (r .ensures)) (ap (λ (x : Reduced). x .words) (r .ensures)) (p .result) (p .ensures) _ _ _ (q .result) (q .ensures) (c .if2 .left)
+
+wide-requires : tie.Need-wide-requires
+wide-requires c κs = tt
 
 wide16-requires : tie.Need-wide16-requires
-wide16-requires c κs = search needs
+wide16-requires c κs = tt
 
-mul-count : tie.Need-mul-count
-mul-count c = search needs
+mul-write-words : tie.Need-mul-write-words
+mul-write-words c = record { fits = three-fit (c .wide16 .result) (c .wide16 .ensures .1) }
 
-mul-size : tie.Need-mul-size
-mul-size c =
-    let a = c .before .before .before .before .before .before .before .before .before .before .before .before .before .before .before .args in
-    let j = job (a .n) (a .m) (a .k) (a .l) (a .order .now) in
-    let s = a .sheet .now in
-    let r = c .before .before .before .before .before .before .before .reduce in
-    omega (arith, limits j s (r .result) (r .ensures .0) (c .before .before .before .before .before .if1 .left) .0)
+write-words-requires : tie.Need-write-words-requires
+write-words-requires c κs = words-fit (kept-here (c .before .before .before .before .before .before .before .before .before)) (c .before .wide16 .result) (c .before .wide16 .ensures .0)
 
-refusal-requires-3 : tie.Need-refusal-requires-3
-refusal-requires-3 c κs = search needs
+add-write-records : tie.Need-add-write-records
+add-write-records c = record { fits = one-fits (c .before .before .before .before .before .before .before .before .wide .result) (c .before .before .before .before .before .before .before .before .wide .ensures .1) }
+
+write-records-requires : tie.Need-write-records-requires
+write-records-requires c κs = records-fit (kept-here (c .before .before .before .before .before .before .before .before .before .before .before .before .before)) (c .before .before .before .before .before .before .before .before .before .wide .result) (c .before .before .before .before .before .before .before .before .before .wide .ensures .0)
+
+write-cells-requires : tie.Need-write-cells-requires
+write-cells-requires c κs = cells-fit (kept-here (c .before .before .before .before .before .before .before .before .before .before .before .before .before .before .before .before .before .before)) (c .before .before .before .before .before .before .before .before .before .before .before .before .before .before .wide .result) (c .before .before .before .before .before .before .before .before .before .before .before .before .before .before .wide .ensures .0)
+
+narrow16-requires : tie.Need-narrow16-requires
+narrow16-requires c κs = kept-here (c .before .before .before .before .before .before .before .before .before .before .before .before .before .before .before .before .before .before .before .before .before) .rows-few
+
+same-length : tie.Need-same-length
+same-length c = c .before .before .before .before .before .before .before .before .before .before .before .before .write-words .kept .1 .1 .0
+
+same-length-2 : tie.Need-same-length-2
+same-length-2 c = c .before .before .before .before .before .before .before .before .write-records .kept .1 .1 .1 .1 .1 .0
+
+same-length-3 : tie.Need-same-length-3
+same-length-3 c = c .before .before .before .write-cells .kept .1 .1 .1 .1 .1 .1 .1 .1 .0
 
 returns-3 : tie.Need-returns-3
 returns-3 c =
-    let a = c .before .before .before .before .before .before .before .before .before .before .before .before .before .before .before .before .before .args in
-    let j = job (a .n) (a .m) (a .k) (a .l) (a .order .now) in
-    let s = a .sheet .now in
-    let r = c .before .before .before .before .before .before .before .before .before .reduce in
-    let p = c .before .before .before .before .before .plan-cells in
-    let w = c .before .before .before .before .wide in
-    refused-9 j s (r .result) (r .ensures .0) (c .before .before .before .before .before .before .before .if1 .left) _ _ (r .ensures .1 .0) (r .ensures .1 .1) (p .result) (p .ensures) (w .result) (w .ensures .0) (c .before .before .before .if2 .left) _ _ _ (omega (arith, c .before .if3 .taken, c .before .before .wide16 .ensures .0)) _ (c .refusal3 .ensures)
-
-refusal-requires-4 : tie.Need-refusal-requires-4
-refusal-requires-4 c κs = search needs
-
-returns-4 : tie.Need-returns-4
-returns-4 c =
-    let a = c .before .before .before .before .before .before .before .before .before .before .before .before .before .before .before .before .before .before .args in
-    let j = job (a .n) (a .m) (a .k) (a .l) (a .order .now) in
-    let s = a .sheet .now in
-    let r = c .before .before .before .before .before .before .before .before .before .before .reduce in
-    let p = c .before .before .before .before .before .before .plan-cells in
-    let w = c .before .before .before .before .before .wide in
-    refused-10 j s (r .result) (r .ensures .0) (c .before .before .before .before .before .before .before .before .if1 .left) _ _ (r .ensures .1 .0) (r .ensures .1 .1) (p .result) (p .ensures) (w .result) (w .ensures .0) (c .before .before .before .before .if2 .left) _ _ _ (omega (arith, c .before .before .if3 .left, c .before .before .before .wide16 .ensures .0)) (omega (arith, c .before .if4 .taken)) _ (c .refusal4 .ensures)
-
-refusal-requires-5 : tie.Need-refusal-requires-5
-refusal-requires-5 c κs = search needs
-
-returns-5 : tie.Need-returns-5
-returns-5 c =
-    let a = c .before .before .before .before .before .before .before .before .before .before .before .before .before .before .before .before .before .before .before .before .args in
-    let j = job (a .n) (a .m) (a .k) (a .l) (a .order .now) in
-    let s = a .sheet .now in
-    let r = c .before .before .before .before .before .before .before .before .before .before .before .before .reduce in
-    let p = c .before .before .before .before .before .before .before .before .plan-cells in
-    let w = c .before .before .before .before .before .before .before .wide in
-    refused-11 j s (r .result) (r .ensures .0) (c .before .before .before .before .before .before .before .before .before .before .if1 .left) _ _ (r .ensures .1 .0) (r .ensures .1 .1) (p .result) (p .ensures) (w .result) (w .ensures .0) (c .before .before .before .before .before .before .if2 .left) _ _ _ (omega (arith, c .before .before .before .before .if3 .left, c .before .before .before .before .before .wide16 .ensures .0)) (omega (arith, c .before .before .before .if4 .left)) (omega (arith, c .before .if5 .taken)) _ (c .refusal5 .ensures)
-
-write-words-requires : tie.Need-write-words-requires
-write-words-requires c κs =
-    let a = c .before .before .before .before .before .before .before .before .before .before .before .before .before .before .before .before .before .before .before .before .before .before .before .before .args in
-    let j = job (a .n) (a .m) (a .k) (a .l) (a .order .now) in
-    let s = a .sheet .now in
-    let r = c .before .before .before .before .before .before .before .before .before .before .before .before .before .before .before .before .reduce in
-    (omega (arith, words-few j s (r .result) (r .ensures .0) (c .before .before .before .before .before .before .before .before .before .before .before .before .before .before .if1 .left), c .before .before .before .before .before .before .before .before .before .wide16 .ensures .0), omega (arith, c .before .before .before .before .before .before .before .before .if3 .left))
-
-add-write-records : tie.Need-add-write-records
-add-write-records c = search needs
-
-write-records-requires : tie.Need-write-records-requires
-write-records-requires c κs =
-    let a = c .before .before .before .before .before .before .before .before .before .before .before .before .before .before .before .before .before .before .before .before .before .before .before .before .before .before .before .before .before .before .args in
-    let j = job (a .n) (a .m) (a .k) (a .l) (a .order .now) in
-    let s = a .sheet .now in
-    let r = c .before .before .before .before .before .before .before .before .before .before .before .before .before .before .before .before .before .before .before .before .before .before .reduce in
-    let p = c .before .before .before .before .before .before .before .before .before .before .before .before .before .before .before .before .before .before .plan-cells in
-    let w = c .before .before .before .before .before .before .before .before .before .before .before .before .before .before .before .before .before .wide in
-    let l = limits j s (r .result) (r .ensures .0) (c .before .before .before .before .before .before .before .before .before .before .before .before .before .before .before .before .before .before .before .before .if1 .left) in
-    (l .0, l .3, omega (arith, cells-few j s (r .result) (r .ensures .0) (c .before .before .before .before .before .before .before .before .before .before .before .before .before .before .before .before .before .before .before .before .if1 .left) _ _ (r .ensures .1 .0) (r .ensures .1 .1) (p .result) (p .ensures) (w .result) (w .ensures .0)), omega (arith, c .before .before .before .before .before .before .before .before .before .before .before .before .before .if4 .left))
-
-write-cells-requires : tie.Need-write-cells-requires
-write-cells-requires c κs =
-    let a = c .before .before .before .before .before .before .before .before .before .before .before .before .before .before .before .before .before .before .before .before .before .before .before .before .before .before .before .before .before .before .before .before .before .before .before .before .before .before .before .args in
-    let j = job (a .n) (a .m) (a .k) (a .l) (a .order .now) in
-    let s = a .sheet .now in
-    let r = c .before .before .before .before .before .before .before .before .before .before .before .before .before .before .before .before .before .before .before .before .before .before .before .before .before .before .before .before .before .before .before .reduce in
-    let p = c .before .before .before .before .before .before .before .before .before .before .before .before .before .before .before .before .before .before .before .before .before .before .before .before .before .before .before .plan-cells in
-    let w = c .before .before .before .before .before .before .before .before .before .before .before .before .before .before .before .before .before .before .before .before .before .before .before .before .before .before .wide in
-    let some = c .before .before .before .before .before .before .before .before .before .before .before .before .before .before .before .before .before .before .before .before .before .before .before .before .before .if2 .left in
-    let l = limits j s (r .result) (r .ensures .0) (c .before .before .before .before .before .before .before .before .before .before .before .before .before .before .before .before .before .before .before .before .before .before .before .before .before .before .before .before .before .if1 .left) in (
-      l .0,
-      cells-few j s (r .result) (r .ensures .0) (c .before .before .before .before .before .before .before .before .before .before .before .before .before .before .before .before .before .before .before .before .before .before .before .before .before .before .before .before .before .if1 .left) _ _ (r .ensures .1 .0) (r .ensures .1 .1) (p .result) (p .ensures) (w .result) (w .ensures .0),
-      columns-few j s (r .result) (r .ensures .0) (c .before .before .before .before .before .before .before .before .before .before .before .before .before .before .before .before .before .before .before .before .before .before .before .before .before .before .before .before .before .if1 .left) _ _ (r .ensures .1 .0) (r .ensures .1 .1) (p .result) (p .ensures) (w .result) (w .ensures .0) some,
-      writable j s (r .result) (r .ensures .0) (c .before .before .before .before .before .before .before .before .before .before .before .before .before .before .before .before .before .before .before .before .before .before .before .before .before .before .before .before .before .if1 .left) _ _ (r .ensures .1 .0) (r .ensures .1 .1) (p .result) (p .ensures) (w .result) (w .ensures .0) some,
-      rows-fit j s (r .result) (r .ensures .0) (c .before .before .before .before .before .before .before .before .before .before .before .before .before .before .before .before .before .before .before .before .before .before .before .before .before .before .before .before .before .if1 .left) _ _ (r .ensures .1 .0) (r .ensures .1 .1) (p .result) (p .ensures) (w .result) (w .ensures .0) some (a .rows .now) (omega (arith, c .before .before .before .before .before .before .before .before .before .before .before .before .before .before .before .before .before .before .before .before .if5 .left)),
-    )
-
-narrow16-requires : tie.Need-narrow16-requires
-narrow16-requires c κs =
-    let a = c .before .before .before .before .before .before .before .before .before .before .before .before .before .before .before .before .before .before .before .before .before .before .before .before .before .before .before .before .before .before .before .before .before .before .before .before .before .before .before .before .before .before .args in
-    let j = job (a .n) (a .m) (a .k) (a .l) (a .order .now) in
-    let s = a .sheet .now in
-    let r = c .before .before .before .before .before .before .before .before .before .before .before .before .before .before .before .before .before .before .before .before .before .before .before .before .before .before .before .before .before .before .before .before .before .before .reduce in
-    let p = c .before .before .before .before .before .before .before .before .before .before .before .before .before .before .before .before .before .before .before .before .before .before .before .before .before .before .before .before .before .before .plan-cells in
-    let w = c .before .before .before .before .before .before .before .before .before .before .before .before .before .before .before .before .before .before .before .before .before .before .before .before .before .before .before .before .before .wide in
-    omega (arith, rows-small j s (r .result) (r .ensures .0) (c .before .before .before .before .before .before .before .before .before .before .before .before .before .before .before .before .before .before .before .before .before .before .before .before .before .before .before .before .before .before .before .before .if1 .left) _ _ (r .ensures .1 .0) (r .ensures .1 .1) (p .result) (p .ensures) (w .result) (w .ensures .0) (c .before .before .before .before .before .before .before .before .before .before .before .before .before .before .before .before .before .before .before .before .before .before .before .before .before .before .before .before .if2 .left))
-
-same-length : tie.Need-same-length
-same-length c = search needs
-
-same-length-2 : tie.Need-same-length-2
-same-length-2 c = search needs
-
-same-length-3 : tie.Need-same-length-3
-same-length-3 c = search needs
-
-returns-6 : tie.Need-returns-6
-returns-6 c =
-    let a = c .before .before .before .before .before .before .before .before .before .before .before .before .before .before .before .before .before .before .before .before .before .before .before .before .before .before .before .before .before .before .before .before .before .before .before .before .before .before .before .before .before .before .before .args in
-    let j = job (a .n) (a .m) (a .k) (a .l) (a .order .now) in
-    let s = a .sheet .now in
-    let r = c .before .before .before .before .before .before .before .before .before .before .before .before .before .before .before .before .before .before .before .before .before .before .before .before .before .before .before .before .before .before .before .before .before .before .before .reduce in
-    let p = c .before .before .before .before .before .before .before .before .before .before .before .before .before .before .before .before .before .before .before .before .before .before .before .before .before .before .before .before .before .before .before .plan-cells in
-    let w = c .before .before .before .before .before .before .before .before .before .before .before .before .before .before .before .before .before .before .before .before .before .before .before .before .before .before .before .before .before .before .wide in
-    let count : c .before .before .before .before .before .before .before .before .before .before .before .before .before .before .before .before .before .before .before .before .before .before .before .before .before .before .before .before .wide16 .result * 3 ≡ r .result .nodes * 3 = ap (λ (n : ℕ). n * 3) (c .before .before .before .before .before .before .before .before .before .before .before .before .before .before .before .before .before .before .before .before .before .before .before .before .before .before .before .before .wide16 .ensures .0) in
-    accepted-all j s (r .result) (r .ensures .0) (c .before .before .before .before .before .before .before .before .before .before .before .before .before .before .before .before .before .before .before .before .before .before .before .before .before .before .before .before .before .before .before .before .before .if1 .left) _ _ (r .ensures .1 .0) (r .ensures .1 .1) (p .result) (p .ensures) (w .result) (w .ensures .0) (c .before .before .before .before .before .before .before .before .before .before .before .before .before .before .before .before .before .before .before .before .before .before .before .before .before .before .before .before .before .if2 .left) _ _ _ (omega (arith, c .before .before .before .before .before .before .before .before .before .before .before .before .before .before .before .before .before .before .before .before .before .before .before .before .before .before .before .if3 .left, c .before .before .before .before .before .before .before .before .before .before .before .before .before .before .before .before .before .before .before .before .before .before .before .before .before .before .before .before .wide16 .ensures .0)) (omega (arith, c .before .before .before .before .before .before .before .before .before .before .before .before .before .before .before .before .before .before .before .before .before .before .before .before .before .before .if4 .left)) (omega (arith, c .before .before .before .before .before .before .before .before .before .before .before .before .before .before .before .before .before .before .before .before .before .before .before .before .if5 .left)) _ _ _ _ _ count (c .narrow16 .ensures)
-    (c .before .before .before .before .before .before .before .before .before .before .before .before .before .before .before .before .before .before .write-words .ensures) (c .before .before .before .before .before .before .before .before .before .before .before .before .write-records .ensures) (c .before .before .before .write-cells .ensures)
+    accepted-late (kept-here (c .before .before .before .before .before .before .before .before .before .before .before .before .before .before .before .before .before .before .before .before .before .before)) (c .before .before .before .before .before .before .before .before .before .before .before .before .before .before .before .before .before .before .wide .result) (c .before .before .before .before .before .before .before .before .before .before .before .before .before .before .before .before .before .before .wide .ensures .0) _ _ _ (c .before .before .before .before .before .before .before .before .before .before .before .before .before .before .wide16 .result) _ (c .before .before .before .before .before .before .before .before .before .before .before .before .before .before .wide16 .ensures .0) (c .narrow16 .ensures) (c .before .before .before .before .before .before .before .before .before .before .before .before .write-words .ensures)
+    (c .before .before .before .before .before .before .before .before .write-records .ensures) (c .before .before .before .write-cells .ensures)
 
 pub compile-all-spec : {M : Type 1} → statement M
 compile-all-spec =
@@ -187,18 +118,12 @@ compile-all-spec =
     returns
     add-t
     plan-cells-requires
-    wide-requires
+    plan-refusal-requires
     refusal-requires-2
     returns-2
+    wide-requires
     wide16-requires
-    mul-count
-    mul-size
-    refusal-requires-3
-    returns-3
-    refusal-requires-4
-    returns-4
-    refusal-requires-5
-    returns-5
+    mul-write-words
     write-words-requires
     add-write-records
     write-records-requires
@@ -207,4 +132,4 @@ compile-all-spec =
     same-length
     same-length-2
     same-length-3
-    returns-6)
+    returns-3)
