@@ -26,7 +26,7 @@ use Rattle.cutting_spec.specs.Choice.{refuse8}
 use Rattle.cutting_spec.specs.Compile.{Made, made, totals, CompiledAs, Compiled, refusal, acceptance, lend, reduce, compileAs, compile, compileWords}
 use Rattle.cutting.specs.Outcome.{Outcome, answered, outcomeOf, outcome}
 use Rattle.cutting.specs.declared.Compilation.{Compilation}
-use Rattle.node_table.specs.Nodes.{noNode, nodeIn, wordsFor}
+use Rattle.node_table.specs.Nodes.{noNode, nodeIn, wordsFor, nodeOutcomeOf, nodeOutcome}
 use Rattle.node_table.proofs.words.LentWords.{words-for-most, short-same, room-same}
 
 -- nodes read back from words that begin with them
@@ -137,12 +137,15 @@ module _ (nodes : List Node) where
       pub fill-room : (r .nodes * 3 ≤ 30720) × (r .nodes ≤ length nodes)
       fill-room = (omega (arith, count-same, both .few), omega (arith, count-same, both .room))
 
-      pub table-outcome : (r ≡ answered (compile nodes records rows j s .answer)) × (puts (r .nodes) (nodeIn zs) nodes ≡ compile nodes records rows j s .nodes)
-          × (rs ≡ compile nodes records rows j s .records) × (os ≡ compile nodes records rows j s .rows)
+      -- the table after, and with it all that the compiler gives
+      table-same : puts (r .nodes) (nodeIn zs) nodes ≡ compile nodes records rows j s .nodes
       unfolding outcome
-      table-outcome = (
-        same-answer,
-        ap (λ (k : ℕ). puts k (nodeIn zs) nodes) count-same ∙ both .table zs (ap (λ (o : Outcome). o .nodes) known),
-        ap (λ (o : Outcome). o .records) known ∙ both .records,
-        ap (λ (o : Outcome). o .rows) known ∙ both .rows,
-      )
+      table-same = ap (λ (k : ℕ). puts k (nodeIn zs) nodes) count-same ∙ both .table zs (ap (λ (o : Outcome). o .nodes) known)
+
+      pub table-outcome : (ns : List Node) → ns ≡ puts (r .nodes) (nodeIn zs) nodes → nodeOutcomeOf r ns rs os ≡ nodeOutcome nodes records rows j s
+      unfolding outcome
+      table-outcome ns stored =
+          ap (λ (a : Compilation). nodeOutcomeOf a ns rs os) same-answer
+          ∙ ap (λ (l : List Node). nodeOutcomeOf (answered (over .answer)) l rs os) (stored ∙ table-same)
+          ∙ ap (λ (l : List ℕ). nodeOutcomeOf (answered (over .answer)) (over .nodes) l os) (ap (λ (o : Outcome). o .records) known ∙ both .records)
+          ∙ ap (λ (l : List ℕ). nodeOutcomeOf (answered (over .answer)) (over .nodes) (over .records) l) (ap (λ (o : Outcome). o .rows) known ∙ both .rows)

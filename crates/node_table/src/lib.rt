@@ -5,9 +5,7 @@ mod words;
 ghost use mathlib.Core.Path.{_≡_};
 ghost use lib.ListN.{getD};
 ghost use Rattle.sheet_spec.specs.Job.{job};
-ghost use Rattle.cutting_spec.specs.Compile.{compile};
-ghost use Rattle.cutting.specs.Outcome.{answered};
-ghost use Rattle.node_table.specs.Nodes.{noNode};
+ghost use Rattle.node_table.specs.Nodes.{noNode, nodeOutcomeOf, nodeOutcome};
 use crate::nodes::fill;
 use crate::words::compile_words;
 use cutting::Compilation;
@@ -27,8 +25,8 @@ pub fn compile(
     rows: &mut [u8],
 ) -> Compilation
     ensures { λ r.
-        ⌜ (let c = compile (now (nodes .entry)) (now (records .entry)) (now (rows .entry)) (job n m k l (now (order .entry))) (now (sheet .entry)) in
-        (r ≡ answered (c .answer)) × (now (nodes .exit) ≡ c .nodes) × (now (records .exit) ≡ c .records) × (now (rows .exit) ≡ c .rows)) ⌝ }
+        ⌜ nodeOutcomeOf r (now (nodes .exit)) (now (records .exit)) (now (rows .exit))
+        ≡ nodeOutcome (now (nodes .entry)) (now (records .entry)) (now (rows .entry)) (job n m k l (now (order .entry))) (now (sheet .entry)) ⌝ }
 {
     let mut words = [0u16; NODE_WORDS];
     let r = compile_words(

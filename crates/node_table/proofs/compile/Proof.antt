@@ -4,6 +4,7 @@
 use mathlib.Core.Path.{_≡_, refl, ap, subst, sym, _∙_}
 use Prim.Native.Nat.{ℕ, _<_, _≤_, _^_, _*_}
 use native.Mathlib.Omega.{arith}
+use mathlib.Core.Option.{none, some as full}
 use mathlib.Core.List.{List, [], _∷_}
 use lib.ListN.{length, replicate, take}
 use lib.Dec.{lit<, T as Holds}
@@ -23,7 +24,7 @@ use contract.Running.{givenOf, tables, tablesOf}
 use sound.WpLaws.{FmC, fmOf, WpFn-mono}
 use types.Kit.{Given, Item, ‵, raw, some, later, _⊛_, ⋆, _$_, _∵_, !, qed, by, move, keep, drop, use1, use2, use3, split, pick, rewrite, fsplit, fjoin, feqL, feqI, suffices, frame, group, await, done}
 use types.Part.{agg, rep, whole, sub, look-in}
-use types.Run.{look, store, init, forget, stop, hop, fld, from, load, lit, addr, of-opd, un, and-then, no-more, assigns, land, returns, enter, alloc1, alloc0, params1, pass1, pass0, free1, free0}
+use types.Run.{look, store, init, stop, hop, fld, from, load, lit, addr, of-opd, un, and-then, no-more, assigns, land, returns, enter, alloc1, alloc0, params1, pass1, pass0}
 use types.SemTy.{cells, Arr}
 use types.Share.{arr-parts}
 use types.Tokens.{lft-new, lft-end, lent-back}
@@ -53,13 +54,13 @@ use Rattle.laws.specs.Lists.{puts}
 use Rattle.sheet_spec.specs.Job.{Job, job}
 use Rattle.reduction_spec.specs.declared.Node.{Node}
 use Rattle.reduction_spec.proofs.Node as T
-use Rattle.cutting_spec.specs.Compile.{Compiled, compile}
-use Rattle.cutting.specs.Outcome.{answered, outcomeOf, outcome}
+use Rattle.cutting.specs.Outcome.{outcomeOf, outcome}
 use Rattle.cutting.specs.declared.Compilation.{Compilation}
 use Rattle.cutting.proofs.Compilation as C
 use Rattle.cutting.proofs.Compilation.Laws as C′
-use Rattle.node_table.specs.Nodes.{nodeIn, wordsFor}
+use Rattle.node_table.specs.Nodes.{nodeIn, wordsFor, nodeOutcomeOf, nodeOutcome}
 use Rattle.node_table.proofs.WordsAndNodes.{fill-room, table-outcome}
+use Rattle.node_table.proofs.FreedLocals.{frees-all}
 use Rattle.node_table.proofs.LocalWords.{AR, arTy, size-is, zeros, zeros-long, zval, big-lit, zeros-own, zeros-lent, words-lent, in-cells, out-room}
 use Rattle.node_table.proofs.words.compile_words as compile-words
 use Rattle.node_table.proofs.words.compile_words.Symbol as compile-words-def
@@ -132,11 +133,8 @@ module _ {M : Type 1} (𝓤 : URA M) (H : Heap 𝓤) (A : Atoms 𝓤) (W : Given
   j = job n m k l (order .now)
 
   -- what the contract says
-  abbrev made : Compiled
-  made = compile ys (records .now) (rows .now) j (sheet .now)
-
   abbrev Said : Compilation → List Node → List ℕ → List ℕ → Type 0
-  Said r zn zr zo = (r ≡ answered (made .answer)) × (zn ≡ made .nodes) × (zr ≡ made .records) × (zo ≡ made .rows)
+  Said r zn zr zo = nodeOutcomeOf r zn zr zo ≡ nodeOutcome ys (records .now) (rows .now) j (sheet .now)
 
   -- the tokens
   abbrev t₀ : Item 𝓤
@@ -249,18 +247,19 @@ module _ {M : Type 1} (𝓤 : URA M) (H : Heap 𝓤) (A : Atoms 𝓤) (W : Given
     count-fits = omega (arith, fill-room ys zeros (records .now) (rows .now) zeros-long j (sheet .now) r zw zr zo known .0)
 
     all-said : (zn : List Node) → zn ≡ puts (r .nodes) (nodeIn zw) ys → Said r zn zr zo
-    all-said zn stored = let t = table-outcome ys zeros (records .now) (rows .now) zeros-long j (sheet .now) r zw zr zo known in (t .0, stored ∙ t .1, t .2, t .3)
+    all-said = table-outcome ys zeros (records .now) (rows .now) zeros-long j (sheet .now) r zw zr zo known
 
   module _ (Cs : Calls 𝓤 H) (Λ : Loops 𝓤 H) (fm : FmC 𝓤 H (W .laws) Cs) (words-known : Triple 𝓤 (Cs #compile-words) (CompileWords 𝓤 H A at-mem run)) (fill-known : Triple 𝓤 (Cs #fill) (Fill 𝓤 H A at-mem run)) where
     walk : Fit → ent 𝓤 (onEntry 𝓤 H A f.signature κs qs a at) (WpFn 𝓤 H Cs Λ code.function (vint w64 n ∷ vint w64 m ∷ vint w64 k ∷ vint w64 l ∷ sl order ∷ sl sheet ∷ sl nodes ∷ sl records ∷ sl rows ∷ []) Post)
     walk g =
-        qed W ((t₀ ⊛ t₁ ⊛ t₂ ⊛ t₃ ⊛ t₄ ⊛ ‵ ftrue) ∷ ‵ (owns (typesAt (f.signature .params) κs) a at) ∷ []) ∵ enter ! Cs Λ code.function (vint w64 n ∷ vint w64 m ∷ vint w64 k ∷ vint w64 l ∷ sl order ∷ sl sheet ∷ sl nodes ∷ sl records ∷ sl rows ∷ []) _ $
+        qed W ((t₀ ⊛ t₁ ⊛ t₂ ⊛ t₃ ⊛ t₄ ⊛ ‵ ftrue) ∷ ‵ (owns (typesAt (f.signature .params) κs) a at) ∷ []) ∵
+        -- the tokens and the slices by themselves
+        split ! $ move ! (1 ∷ []) $ split ! $ move ! (1 ∷ []) $ split ! $ move ! (1 ∷ []) $ split ! $ move ! (1 ∷ []) $ split ! $ move ! (1 ∷ []) $ drop ! $ move ! (5 ∷ []) $ fsplit ! $ drop ! $ fsplit ! $ drop ! $ fsplit ! $ drop ! $ fsplit ! $ drop ! $ fsplit ! $ move ! (1 ∷ []) $ fsplit ! $ move ! (1 ∷ []) $ fsplit ! $ move ! (1 ∷ []) $ fsplit ! $ move ! (1 ∷ []) $ fsplit ! $ move ! (1 ∷ []) $ drop ! $
+        enter ! Cs Λ code.function (vint w64 n ∷ vint w64 m ∷ vint w64 k ∷ vint w64 l ∷ sl order ∷ sl sheet ∷ sl nodes ∷ sl records ∷ sl rows ∷ []) _ $
         alloc1 ! (λ l₀. alloc1 ! (λ l₁. alloc1 ! (λ l₂. alloc1 ! (λ l₃. alloc1 ! (λ l₄. alloc1 ! (λ l₅. alloc1 ! (λ l₆. alloc1 ! (λ l₇. alloc1 ! (λ l₈. alloc1 ! (λ l₉. alloc1 ! (λ l₁₀. alloc1 ! (λ l₁₁. alloc1 ! (λ l₁₂. alloc1 ! (λ l₁₃. alloc1 ! (λ l₁₄. alloc1 ! (λ l₁₅. alloc1 ! (λ l₁₆. alloc1 ! (λ l₁₇. alloc1 ! (λ l₁₈. alloc1 ! (λ l₁₉. alloc1 ! (λ l₂₀. alloc1 ! (λ l₂₁. alloc1 ! (λ l₂₂. alloc1 ! (λ l₂₃. alloc0 ! $ params1 ! $
         pass1 ! (init ! 44 refl (tt, record { fits = g .n-fits })) $ pass1 ! (init ! 42 refl (tt, record { fits = g .m-fits })) $ pass1 ! (init ! 40 refl (tt, record { fits = g .k-fits })) $ pass1 ! (init ! 38 refl (tt, record { fits = g .l-fits })) $
         pass1 ! (init ! 36 refl (tt, (tt, (record { fits = g .order-room .0 }, tt)))) $ pass1 ! (init ! 34 refl (tt, (tt, (record { fits = g .sheet-room .0 }, tt)))) $ pass1 ! (init ! 32 refl (tt, (tt, (record { fits = g .nodes-room .0 }, tt)))) $ pass1 ! (init ! 30 refl (tt, (tt, (record { fits = g .records-room .0 }, tt)))) $ pass1 ! (init ! 28 refl (tt, (tt, (record { fits = g .rows-room .0 }, tt)))) $ pass0 ! $
-        -- the tokens and the slices by themselves
-        move ! (48 ∷ []) $ split ! $ move ! (1 ∷ []) $ split ! $ move ! (1 ∷ []) $ split ! $ move ! (1 ∷ []) $ split ! $ move ! (1 ∷ []) $ split ! $ move ! (1 ∷ []) $ drop ! $ move ! (53 ∷ []) $ fsplit ! $ drop ! $ fsplit ! $ drop ! $ fsplit ! $ drop ! $ fsplit ! $ drop ! $ fsplit ! $ move ! (1 ∷ []) $ fsplit ! $ move ! (1 ∷ []) $ fsplit ! $ move ! (1 ∷ []) $ fsplit ! $ move ! (1 ∷ []) $ fsplit ! $ move ! (1 ∷ []) $ drop ! $
-        move ! (4 ∷ 3 ∷ 2 ∷ 1 ∷ 0 ∷ 9 ∷ 8 ∷ 7 ∷ 6 ∷ 5 ∷ 56 ∷ 54 ∷ 52 ∷ 50 ∷ 48 ∷ 46 ∷ 44 ∷ 42 ∷ 40 ∷ 38 ∷ 36 ∷ 34 ∷ 32 ∷ 30 ∷ 28 ∷ 26 ∷ 24 ∷ 22 ∷ 20 ∷ 18 ∷ 16 ∷ 14 ∷ 12 ∷ 10 ∷ []) $
+        move ! (52 ∷ 51 ∷ 50 ∷ 49 ∷ 48 ∷ 57 ∷ 56 ∷ 55 ∷ 54 ∷ 53 ∷ 46 ∷ 44 ∷ 42 ∷ 40 ∷ 38 ∷ 36 ∷ 34 ∷ 32 ∷ 30 ∷ 28 ∷ 26 ∷ 24 ∷ 22 ∷ 20 ∷ 18 ∷ 16 ∷ 14 ∷ 12 ∷ 10 ∷ 8 ∷ 6 ∷ 4 ∷ 2 ∷ 0 ∷ []) $
         -- the array of zeros
         owned ! u16 (Is u16) (uint-makes 𝓤 H A W w16) 0 _ (refl, lit< tt) $ use1 W (‵ (AR .own zeros (zval ∷ []))) (zeros-own 𝓤 H A W) $
         peeks ! AR (Is AR) (shows 𝓤 H A AR) zeros (zval ∷ []) (λ is-zeros.
@@ -319,9 +318,7 @@ module _ {M : Type 1} (𝓤 : URA M) (H : Heap 𝓤) (A : Atoms 𝓤) (W : Given
         keep ! (11 ∷ 57 ∷ 12 ∷ 56 ∷ 13 ∷ 55 ∷ 14 ∷ 54 ∷ 15 ∷ 53 ∷ 16 ∷ 52 ∷ 17 ∷ 51 ∷ 18 ∷ 50 ∷ 19 ∷ 49 ∷ 20 ∷ 48 ∷ 2 ∷ 47 ∷ 21 ∷ 46 ∷ 22 ∷ 45 ∷ 23 ∷ 44 ∷ 24 ∷ 43 ∷ 25 ∷ 42 ∷ 26 ∷ 41 ∷ 27 ∷ 40 ∷ 28 ∷ 39 ∷ 29 ∷ 38 ∷ 30 ∷ 37 ∷ 31 ∷ 36 ∷ 32 ∷ 35 ∷ 33 ∷ 34 ∷ 7 ∷ 6 ∷ 0 ∷ 5 ∷ 4 ∷ 3 ∷ 10 ∷ 9 ∷ 8 ∷ []) $
         assigns ! (of-opd ! (load ! (from ! (stop !)) (look ! 22 refl))) (from ! (stop !)) (init ! 0 refl (LL.lawful C.the-type C′.the-laws 𝓤 H A W .typed r _ (subst (Is CR r) (LL.tells C.the-type C′.the-laws r (w ∷ []) is) is) .0)) $
         returns ! (look ! 0 refl) $
-        forget ! 0 refl $ forget ! 2 refl $ forget ! 4 refl $ forget ! 6 refl $ forget ! 8 refl $ forget ! 10 refl $ forget ! 12 refl $ forget ! 14 refl $ forget ! 16 refl $ forget ! 18 refl $ forget ! 22 refl $
-        forget ! 24 refl $ forget ! 26 refl $ forget ! 28 refl $ forget ! 30 refl $ forget ! 32 refl $ forget ! 34 refl $ forget ! 36 refl $ forget ! 38 refl $ forget ! 40 refl $ forget ! 42 refl $ forget ! 44 refl $ forget ! 46 refl $
-        free1 ! $ free1 ! $ free1 ! $ free1 ! $ free1 ! $ free1 ! $ free1 ! $ free1 ! $ free1 ! $ free1 ! $ free1 ! $ free1 ! $ free1 ! $ free1 ! $ free1 ! $ free1 ! $ free1 ! $ free1 ! $ free1 ! $ free1 ! $ free1 ! $ free1 ! $ free1 ! $ free1 ! $ free0 ! $
+        frees-all ! ((_, l₀, full _) ∷ (_, l₁, full _) ∷ (_, l₂, full _) ∷ (_, l₃, full _) ∷ (_, l₄, full _) ∷ (_, l₅, full _) ∷ (_, l₆, full _) ∷ (_, l₇, full _) ∷ (_, l₈, full _) ∷ (_, l₉, full _) ∷ (_, l₁₀, none) ∷ (_, l₁₁, full _) ∷ (_, l₁₂, full _) ∷ (_, l₁₃, full _) ∷ (_, l₁₄, full _) ∷ (_, l₁₅, full _) ∷ (_, l₁₆, full _) ∷ (_, l₁₇, full _) ∷ (_, l₁₈, full _) ∷ (_, l₁₉, full _) ∷ (_, l₂₀, full _) ∷ (_, l₂₁, full _) ∷ (_, l₂₂, full _) ∷ (_, l₂₃, full _) ∷ []) $
         by ! (exits r (zs′ .1 .0) (zs .1 .1 .1 .1 .1 .1 .1 .1 .0) (zs .1 .1 .1 .1 .1 .1 .1 .1 .1 .0) (all-said r (zs .1 .1 .1 .1 .1 .1 .1 .0) (zs .1 .1 .1 .1 .1 .1 .1 .1 .0) (zs .1 .1 .1 .1 .1 .1 .1 .1 .1 .0) known (zs′ .1 .0) stored) len-n len-r len-o))))))))))))))))))))))))))))))))))))))))))))
 
 module _ {M : Type 1} (𝓤 : URA M) (H : Heap 𝓤) (A : Atoms 𝓤) (W : Given 𝓤 H A) (at-mem : Memory → SProp 𝓤) (run : Routine → Fun 𝓤) (𝓣 : Tables 𝓤 H)
