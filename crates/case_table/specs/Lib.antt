@@ -1,4 +1,4 @@
--- What the functions of `case_table` cite.
+-- The case table: what it lends and expects, and the statement.
 pub mod Lent
 pub mod Results
 pub mod Table

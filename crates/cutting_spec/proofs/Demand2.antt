@@ -1,4 +1,4 @@
--- Demand 2 of document 01, gathered. `compile` (src/lib.rt) ensures that its answer and the three memories after are `outcome`'s, and
+-- Demand 2 of document 01, gathered. `compile` (cutting/src/lib.rt) ensures that its answer and the three memories after are `outcome`'s, and
 -- that is `compileAs` for a node table of words. Here is what `compileAs` gives, for every job, sheet and memory:
 -- - `refuses`, `accepts`, `decided`: each refusal exactly in its written case, the lowest first, and all lent memory then as it was; else
 --   the totals, and each memory with what is made at its front;

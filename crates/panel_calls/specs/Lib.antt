@@ -1,3 +1,3 @@
--- What the functions of `panel` cite.
+-- What the functions of `panel_calls` cite.
 pub mod Exported
 pub mod StateBytes

@@ -1,4 +1,4 @@
--- `reduction::whole::first_node` meets its contract.
+-- `reduction::pass::first_node` meets its contract.
 -- Assumes nothing.
 use mathlib.Core.Path.{sym}
 use Prim.Native.Nat.{_+_}

@@ -1,4 +1,4 @@
--- `reduction::whole::inputs_below` meets its contract.
+-- `reduction::pass::inputs_below` meets its contract.
 -- Assumes nothing.
 use native.Mathlib.Omega.{arith}
 use borrow.Author.Needs.{needs}

@@ -1,4 +1,4 @@
--- `reduction::whole::words_in` meets its contract.
+-- `reduction::pass::words_in` meets its contract.
 -- Assumes nothing.
 use mathlib.Core.Path.{_≡_, sym, ap}
 use Prim.Native.Nat.{ℕ, _-_, _^_, _≤_}
