@@ -39,7 +39,8 @@ pub record Admits (S m : ℕ) (bs : List Block) (R bytes : List ℕ) : Type 0 wh
   pub room : total rowCount bs (length bs) + rowCount R ≤ m
   pub most : total rowCount bs (length bs) + rowCount R ≤ 32768
 
-not-refused : (b : Bool) (x y : ℕ) → cond b (suc x) y ≡ 0 → (b ≡ false) × (y ≡ 0)
+-- a refusal that is not given
+pub not-refused : (b : Bool) (x y : ℕ) → cond b (suc x) y ≡ 0 → (b ≡ false) × (y ≡ 0)
 not-refused true x y e = absurd (omega arith)
 not-refused false x y e = (refl, e)
 

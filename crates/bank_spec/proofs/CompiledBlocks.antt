@@ -3,14 +3,14 @@
 -- Assumes nothing.
 use mathlib.Core.Path.{_≡_, sym, _∙_, ap, ap₂}
 use mathlib.Core.Logic.{_⊎_, inl, inr}
-use mathlib.Core.Bool.{Bool, true, false, true≢false}
+use mathlib.Core.Bool.{true, false}
 use mathlib.Core.List.{List}
 use Prim.Native.Nat.{ℕ, suc, _+_, _-_, _*_, _^_, _<_, _≤_}
 use native.Mathlib.Omega.{arith}
 use lib.Dec.{eqb}
 use lib.ListN.{length, getD, take}
 use Rattle.laws.specs.Lists.{written}
-use Rattle.laws.proofs.Cases.{either, by-less, cond-no}
+use Rattle.laws.proofs.Cases.{by-less, cond-no}
 use Rattle.laws.proofs.Bits.{flag-lt}
 use Rattle.laws.proofs.Filled.{written-front}
 use Rattle.sheet_spec.specs.Job.{Job, t, outs, varAt, isInput, inputList, numberOf}
@@ -22,18 +22,15 @@ use Rattle.reduction_spec.specs.Merge.{reduced, refuse7}
 use Rattle.stored_spec.specs.StoredForm.{cellCount}
 use Rattle.stored_spec.specs.Run.{Running, run}
 use Rattle.cutting_spec.specs.Choice.{refuse8}
-use Rattle.cutting_spec.specs.Compile.{Answer, refused, accepted, CompiledAs, made, totals, refusal, acceptance, compile}
-use Rattle.cutting_spec.proofs.Demand2.{case, refuses, accepts, decided}
+use Rattle.cutting_spec.specs.Compile.{Answer, refused, accepted, CompiledAs, made, totals, acceptance, compile}
+use Rattle.cutting_spec.proofs.Demand2.{case, accepts}
 use Rattle.cutting_spec.proofs.OrderHeights.{output-height}
 use Rattle.cutting_spec.proofs.StoredCuts.{cuts-some, length-stored}
 use Rattle.cutting_spec.proofs.Emits.{Emitted, emitted-allowed, compiled-unset}
 use Rattle.cutting_spec.proofs.MadeCascade.{cells-count, made-cuts, made-count, made-emits, made-all}
 use Rattle.bank_spec.specs.Book.{Block}
 use Rattle.bank_spec.specs.Demand3.{CompiledBy, SetAllowed}
-
-unfoldable isRefused : Answer → Bool
-isRefused (refused n) = true
-isRefused (accepted a) = false
+use Rattle.bank_spec.proofs.CompiledAs.{none}
 
 unfoldable rowsAnswered : Answer → ℕ
 rowsAnswered (refused n) = 0
@@ -41,13 +38,8 @@ rowsAnswered (accepted a) = a .rows
 
 module _ (j : Job) (s : List ℕ) (B : Block) (c : CompiledBy j s B) where
   no-case : (n : ℕ) → n ≤ 11 → case (λ xs. xs) (c .nodes) (c .records) (c .rows) j s n ≡ false
-  unfolding compile refusal isRefused
-  no-case =
-      either (decided (λ xs. xs) (c .nodes) (c .records) (c .rows) j s)
-      (λ l.
-      let is = refuses (λ xs. xs) (c .nodes) (c .records) (c .rows) j s (l .0) (l .1) (l .2) in
-      absurd (true≢false (sym (ap (λ (r : CompiledAs Node). isRefused (r .answer)) is) ∙ ap isRefused (c .accepted))))
-      (λ none. none)
+  unfolding compile
+  no-case = none (λ xs. xs) (c .nodes) (c .records) (c .rows) j s (c .totals) (c .accepted)
 
   pub compiled-sheet : sheetRefusal j s ≡ 0
   unfolding sheetRefusal

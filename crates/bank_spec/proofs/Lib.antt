@@ -5,6 +5,7 @@ mod BookHolds
 mod BookScans
 mod BookUnread
 mod CallLists
+pub mod CompiledAs
 mod CompiledBlocks
 pub mod Demand3
 mod Examples
@@ -16,6 +17,7 @@ pub mod Related
 mod Reworded
 mod ScanClaims
 mod Scans
+pub mod StateSizes
 mod StepAsBook
 mod UnreadInputs
 pub mod UpperBits

@@ -1,0 +1,129 @@
+-- The lists of a bank and a scan state keep their lengths under every call.
+-- Assumes nothing.
+use mathlib.Core.Path.{_≡_, refl, _∙_}
+use mathlib.Core.Bool.{true, cond, not, _&&_}
+use mathlib.Core.List.{List}
+use Prim.Native.Nat.{ℕ, _+_, _*_, _/_, _%_, _<_, _≤_}
+use native.Mathlib.Omega.{arith}
+use borrow.Author.Tests.{eqb-true, leb-true, leb-false, ltb-true, not-false}
+use lib.Dec.{eqb, leb, ltb}
+use lib.ListN.{length, getD, length-set, length-take, length-drop}
+use Rattle.laws.specs.Tests.{every, within}
+use Rattle.laws.specs.Lists.{written}
+use Rattle.laws.proofs.Cases.{and-split, cond-each, cond-both}
+use Rattle.laws.proofs.Lists.{length-tab}
+use Rattle.laws.proofs.Filled.{length-written}
+use Rattle.stored_spec.specs.StoredForm.{wellFormed, cellCount, cellAt}
+use Rattle.stored_spec.specs.Run.{outputsAfter}
+use Rattle.stored_spec.proofs.StoredParts.{records-have}
+use Rattle.stored_spec.proofs.ReadWriteCases.{formed-records}
+use Rattle.cutting_spec.proofs.CellRead.{set-length}
+use Rattle.bank_spec.specs.State.{State, Bank, Scan, recordsOf, cellsHeld, rowsHeld, blockFormed, bankFormed, scanFormed, formed}
+use Rattle.bank_spec.specs.Calls.{After, admitRefusal, withBlock, admitted, admit, wordsKept, latched, latch, nextRow, outputsOf, moved, step}
+use Rattle.bank_spec.specs.CallLists.{Call, admission, latching, stepping, call}
+use Rattle.bank_spec.proofs.AdmitAsBook.{not-refused}
+
+pub record Sized (s : State) : Type 0 where
+  pub lengths : length (s .bank .lengths) ≡ 8
+  pub records : length (s .bank .records) ≡ 640
+  pub words : length (s .scan .words) ≡ 8
+  pub outputs : length (s .scan .outputs) ≡ 64
+
+-- a formed state holds at most eight blocks, and with reads left the next is of one held
+few-blocks : (k : Bank) (s : Scan) → formed k s ≡ true → k .count ≤ 8
+unfolding formed bankFormed
+few-blocks k s e =
+    let a = and-split (bankFormed k) (scanFormed k s) e .0 in
+    let b = and-split _ (leb (rowsHeld k) 32768) a .0 in
+    let c = and-split _ (leb (cellsHeld k) (k .limit)) b .0 in
+    let d = and-split _ (every (k .count) (blockFormed k)) c .0 in
+    leb-true (k .count) 8 (and-split (within 1 255 (k .limit)) (leb (k .count) 8) d .1)
+
+next-held : (k : Bank) (s : Scan) → formed k s ≡ true → s .running ≡ true → s .block < k .count
+unfolding formed scanFormed
+next-held k s e run =
+    let a = and-split (bankFormed k) (scanFormed k s) e .1 in
+    let b = ltb (s .block) (k .count) in
+    let c = ltb (s .cell) (cellCount (recordsOf k (s .block))) in
+    let whole = rw run at a in
+    ltb-true (s .block) (k .count) (and-split b c (and-split (b && c) _ whole .0) .0)
+
+module _ (s : State) (h : Sized s) where
+  admitted-sized : (R bytes : List ℕ) → admitRefusal s R bytes ≡ 0 → Sized (admitted s R bytes)
+  unfolding admitRefusal admitted withBlock
+  admitted-sized R bytes e =
+      let ok = formed (s .bank) (s .scan) in
+      let a = not-refused (not (ok && wellFormed R bytes)) 11 _ e in
+      let b = not-refused (leb 8 (s .bank .count)) 12 _ (a .1) in
+      let have = records-have R (formed-records R bytes (and-split ok (wellFormed R bytes) (not-false (ok && wellFormed R bytes) (a .0)) .1)) in
+      let few = leb-false 8 (s .bank .count) (b .0) in
+      let fits : s .bank .count * 80 + length R ≤ length (s .bank .records) = omega (arith, h .records, have .whole, have .few) in
+      record {
+        lengths = length-set (s .bank .lengths) (s .bank .count) (length R / 4) ∙ h .lengths;
+        records = length-written (s .bank .records) (s .bank .count * 80) R fits ∙ h .records;
+        words = refl;
+        outputs = refl;
+      }
+
+  admit-sized : (R bytes : List ℕ) → Sized (admit s R bytes .state)
+  unfolding admit
+  admit-sized R bytes =
+      cond-each Sized (eqb (admitRefusal s R bytes) 0) (λ e. admitted-sized R bytes (eqb-true (admitRefusal s R bytes) 0 e)) (λ e. h)
+
+  latch-sized : (ws : List ℕ) → Sized (latch s ws .state)
+  unfolding latch latched wordsKept
+  latch-sized ws =
+      cond-both (λ (r : After State). Sized (r .state)) (formed (s .bank) (s .scan))
+      (record {
+        lengths = h .lengths;
+        records = h .records;
+        words = length-tab (λ b. cond (ltb b (s .bank .count)) (getD ws b 0 % 4096) 0) 8;
+        outputs = refl;
+      })
+      h
+
+  -- the outputs after a read
+  abbrev written-outputs : ℕ → List ℕ
+  written-outputs x =
+      written (s .scan .outputs) (s .scan .block * 8)
+      (outputsAfter (cellAt (recordsOf (s .bank) (s .scan .block)) (s .scan .cell)) (outputsOf (s .scan) (s .scan .block)) x)
+
+  outputs-sized : (x : ℕ) → s .scan .block < 8 → length (written-outputs x) ≡ 64
+  unfolding outputsAfter outputsOf
+  outputs-sized x l =
+      let c = cellAt (recordsOf (s .bank) (s .scan .block)) (s .scan .cell) in
+      let own = outputsOf (s .scan) (s .scan .block) in
+      let eight : length own ≡ 8 = simp (length-take, length-drop) (omega (arith, h .outputs)) in
+      let new : length (outputsAfter c own x) ≡ 8 = set-length own (c .outs) _ ∙ eight in
+      length-written (s .scan .outputs) (s .scan .block * 8) (outputsAfter c own x) (omega (arith, h .outputs, new)) ∙ h .outputs
+
+  moved-sized : (x : ℕ) → s .scan .block < 8 → Sized (record { bank = s .bank; scan = moved (s .bank) (s .scan) x; rows = s .rows })
+  unfolding moved
+  moved-sized x l =
+      let R = recordsOf (s .bank) (s .scan .block) in
+      let outs = outputs-sized x l in
+      let P : Scan → Type 0 = λ t. (length (t .words) ≡ 8) × (length (t .outputs) ≡ 64) in
+      let both =
+      cond-both P (ltb (s .scan .cell + 1) (cellCount R)) (h .words, outs)
+      (cond-both P (ltb (s .scan .block + 1) (s .bank .count)) (h .words, outs) (h .words, outs)) in
+      record { lengths = h .lengths; records = h .records; words = both .0; outputs = both .1 }
+
+  step-sized : Sized (step s .state)
+  unfolding step
+  step-sized =
+      let k = s .bank in
+      let t = s .scan in
+      cond-each (λ (r : After State). Sized (r .state)) (not (formed k t)) (λ e. h)
+      (λ e.
+      cond-each (λ (r : After State). Sized (r .state)) (not (t .running)) (λ f. h)
+      (λ f.
+      cond-both (λ (r : After State). Sized (r .state)) (ltb (length (s .rows)) (rowsHeld k)) h
+      (let good = not-false (formed k t) e in
+      let run = not-false (t .running) f in
+      moved-sized (nextRow k t (s .rows)) (omega (arith, few-blocks k t good, next-held k t good run)))))
+
+pub call-sized : (s : State) → Sized s → (c : Call) → Sized (call s c .state)
+unfolding call
+call-sized s h (admission R bytes) = admit-sized s h R bytes
+call-sized s h (latching ws) = latch-sized s h ws
+call-sized s h stepping = step-sized s h

@@ -1,0 +1,3 @@
+-- What the demands say of the functions that ship.
+mod StateBytes
+pub mod PanelDemand3

@@ -1,0 +1,3 @@
+-- Lists of exported calls, and demand 3 of them.
+pub mod ExportedCalls
+pub mod PanelDemand3
