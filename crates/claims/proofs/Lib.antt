@@ -1,3 +1,5 @@
 -- What the demands say of the functions that ship.
 mod StateBytes
 pub mod PanelDemand3
+pub mod WrittenBlocks
+pub mod CaseA

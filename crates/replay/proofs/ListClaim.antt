@@ -1,20 +1,32 @@
--- The claim about lists of calls, on the code: what `replay` writes for a bank made with S and a list of calls is the book's trace of demand 3.
+-- Demand 3 on the code that runs a whole list: `list-demand3`. What `replay` writes for a bank made with S and a list of calls is the trace of the
+-- bank and of the book, the rows it leaves are the bank's, and every clause of demand 3 holds of the list.
+-- It speaks of the lists that can be written in bytes (`allFit`). What is left out is an admission of 65,536 or more bytes of records or rows:
+-- every bank refuses it with 12 and nothing changes (`uncoded-refused`), so no list is lost by it. Else `allFit` asks that bytes are bytes, words
+-- are words of 16 bits, and that a latch has eight of them, which no caller of the code can break.
 -- Assumes nothing.
-use mathlib.Core.Path.{_≡_, refl, ap}
-use mathlib.Core.Bool.{true}
+use mathlib.Core.Path.{_≡_, refl, sym, _∙_, ap, ap₂}
+use mathlib.Core.Logic.{_⊎_}
+use mathlib.Core.Bool.{Bool, true, false, not, _&&_, and-false}
 use mathlib.Core.List.{List, [], _∷_, map}
-use Prim.Native.Nat.{ℕ, suc, _*_, _≤_}
+use Prim.Native.Nat.{ℕ, suc, _+_, _*_, _≤_}
 use native.Mathlib.Omega.{arith}
 use lib.ListN.{length, length-map}
 use borrow.Author.Tests.{le-ltb}
 use Rattle.laws.specs.Tests.{within}
 use Rattle.laws.specs.Lists.{written}
-use Rattle.bank_spec.specs.State.{fresh, limitRefused}
-use Rattle.bank_spec.specs.Calls.{accepted}
+use Rattle.laws.proofs.Cases.{either, no-test}
+use Rattle.stored_spec.specs.StoredForm.{wellFormed}
+use Rattle.stored_spec.proofs.StoredParts.{records-have}
+use Rattle.stored_spec.proofs.ReadWriteCases.{formed-records}
+use Rattle.bank_spec.specs.State.{State, fresh, formed, limitRefused}
+use Rattle.bank_spec.specs.Calls.{accepted, refused, numbered, admitRefusal, admit}
 use Rattle.bank_spec.specs.Book.{Book, newBook}
-use Rattle.bank_spec.specs.CallLists.{Call, bookCall, Entry, outputsInBook, bookTrace}
+use Rattle.bank_spec.specs.CallLists.{Call, admission, call, bookCall, stateAfter, Entry, outputsInBook, trace, bookTrace}
+use Rattle.bank_spec.specs.Demand3.{Demand3}
+use Rattle.bank_spec.proofs.FormedCells.{row-bytes}
+use Rattle.bank_spec.proofs.Demand3.{demand3}
 use Rattle.replay.specs.Coded.{Coded, making, calling, codesOf, allFit}
-use Rattle.replay.specs.Entries.{noBank, inBook, bookEntries, bankAfter, traceBytes}
+use Rattle.replay.specs.Entries.{noBank, inBook, bookEntries, onBank, bankAfter, traceBytes}
 use Rattle.replay.specs.Replay.{replay}
 use Rattle.replay.proofs.Written.{calls-coded, coded-readable}
 
@@ -54,3 +66,53 @@ list-claim S e calls fit rows trace room =
     (ap
     (λ (es : List Entry). record { refusal = 0; rows = bankAfter (fresh 0 rows) (madeWith S calls) .rows; trace = written trace 0 (traceBytes es) })
     (made-trace S (length rows) e calls))
+
+-- the state after the calls is the bank's
+calls-after : (s : State) (calls : List Call) → bankAfter s (map calling calls) ≡ stateAfter s calls
+unfolding bankAfter stateAfter onBank
+calls-after s [] = refl
+calls-after s (c ∷ calls) = calls-after (call s c .state) calls
+
+made-fresh : (S : ℕ) → within 1 255 S ≡ true → (rows : List ℕ) → onBank (fresh 0 rows) (making S) .state ≡ fresh S rows
+unfolding onBank limitRefused
+made-fresh S e rows = rw e refl
+
+made-after : (S : ℕ) → within 1 255 S ≡ true → (rows : List ℕ) (calls : List Call)
+    → bankAfter (fresh 0 rows) (madeWith S calls) ≡ stateAfter (fresh S rows) calls
+unfolding bankAfter
+made-after S e rows calls = ap (λ (s : State). bankAfter s (map calling calls)) (made-fresh S e rows) ∙ calls-after (fresh S rows) calls
+
+-- what `replay` writes is the bank's trace, which is the book's (`asBook` of demand 3); the rows are those that the calls leave
+pub list-demand3 : (S : ℕ) → within 1 255 S ≡ true → (calls : List Call) → allFit (madeWith S calls) ≡ true → (rows mem : List ℕ)
+    → 68 * suc (length calls) ≤ length mem
+    → (replay (codesOf (madeWith S calls)) rows mem
+    ≡ record {
+      refusal = 0;
+      rows = stateAfter (fresh S rows) calls .rows;
+      trace = written mem 0 (traceBytes (record { answer = accepted; outputs = [] } ∷ trace (fresh S rows) calls));
+    })
+    × Demand3 S rows calls
+list-demand3 S e calls fit rows mem room =
+    let d = demand3 S e rows calls in (
+      list-claim S e calls fit rows mem room
+          ∙ ap₂
+          (λ (s : State) (es : List Entry).
+          record { refusal = 0; rows = s .rows; trace = written mem 0 (traceBytes (record { answer = accepted; outputs = [] } ∷ es)) })
+          (made-after S e rows calls) (sym (d .asBook)),
+      d,
+    )
+
+-- well formed records have at most 80 bytes, and their rows at most 32,768
+too-long : (R bytes : List ℕ) → (65536 ≤ length R) ⊎ (65536 ≤ length bytes) → wellFormed R bytes ≡ true → ⊥
+too-long R bytes l e =
+    let have = records-have R (formed-records R bytes e) in
+    either l (λ p. omega (arith, have .whole, have .few)) (λ p. omega (arith, row-bytes R bytes e, have .rows))
+
+pub uncoded-refused : (s : State) (R bytes : List ℕ) → (65536 ≤ length R) ⊎ (65536 ≤ length bytes)
+    → call s (admission R bytes) ≡ record { answer = refused 12; state = s }
+unfolding call admit admitRefusal numbered
+uncoded-refused s R bytes l =
+    let no = no-test (wellFormed R bytes) (too-long R bytes l) in
+    let none : (formed (s .bank) (s .scan) && wellFormed R bytes) ≡ false =
+    ap (λ (b : Bool). formed (s .bank) (s .scan) && b) no ∙ and-false (formed (s .bank) (s .scan)) in
+    rw none refl
