@@ -6,6 +6,7 @@ pub mod CutLists
 pub mod Demand2
 pub mod Emits
 mod Examples
+pub mod GreedyCells
 pub mod MadeCascade
 pub mod OrderHeights
 pub mod RailCounts

@@ -4,6 +4,7 @@ use Rattle.stored_spec.specs.Cells.{fits, rows, bits, usableRows, usableBits, a
 use Rattle.cutting_spec.specs.Cuts.{listsTo, cutLists, cellInputs, cellOutputs, cellBetween, cellsOf}
 use Rattle.stored_spec.specs.Rails.{rails, railsAt}
 use Rattle.cutting_spec.specs.Choice.{longer, admissible, better, isNone, best, chosen, refuse8}
+use Rattle.cutting_spec.specs.Greedy.{greedyNext, greedyFrom, greedy}
 use Rattle.cutting_spec.specs.Rows.{emitted, rowOf, row, cellRows, cascadeRows}
 use Rattle.stored_spec.specs.StoredForm.{withVariable, withCut, reading, storedCells, cellCount, cellAt, sizeOf, rowsBefore, rowCount, recordFormed, cellFormed, recordsFormed, rowsFormed, wellFormed, storedTo, stored}
 use Rattle.stored_spec.specs.Run.{address, rowPlace, setOutputs, outputsAfter, railAfter, ranOne, run}
@@ -12,5 +13,5 @@ use Rattle.cutting_spec.specs.Compile.{widthsOf, made, totals, refusal, 
 use Rattle.cutting_spec.specs.Listing.{heightLines, cellLines, listing}
 
 unfoldable pub cuttingOpened : Unit {0}
-unfolding fits rows bits usableRows usableBits allFit rowTotal bitTotal listsTo cutLists rails railsAt cellInputs cellOutputs cellBetween cellsOf longer admissible better isNone best chosen refuse8 emitted rowOf row cellRows cascadeRows storedTo stored withVariable withCut reading storedCells cellCount cellAt sizeOf rowsBefore rowCount recordFormed cellFormed recordsFormed rowsFormed wellFormed address rowPlace setOutputs outputsAfter railAfter ranOne run recordAt cascadeOf read writeBytes write widthsOf made totals refusal acceptance lend reduce compileAs compile compileWords heightLines cellLines listing
+unfolding fits rows bits usableRows usableBits allFit rowTotal bitTotal listsTo cutLists rails railsAt cellInputs cellOutputs cellBetween cellsOf longer admissible better isNone best chosen refuse8 greedyNext greedyFrom greedy emitted rowOf row cellRows cascadeRows storedTo stored withVariable withCut reading storedCells cellCount cellAt sizeOf rowsBefore rowCount recordFormed cellFormed recordsFormed rowsFormed wellFormed address rowPlace setOutputs outputsAfter railAfter ranOne run recordAt cascadeOf read writeBytes write widthsOf made totals refusal acceptance lend reduce compileAs compile compileWords heightLines cellLines listing
 cuttingOpened = tt
