@@ -4,16 +4,19 @@ use mathlib.Core.Path.{_≡_, refl}
 use mathlib.Core.Bool.{true}
 use mathlib.Core.List.{List, [], _∷_, _++_}
 use Prim.Native.Nat.{ℕ}
-use lib.ListN.{replicate}
+use lib.ListN.{length, replicate}
 use Rattle.sheet_spec.specs.Opened.{sheetOpened}
 use Rattle.sheet_spec.specs.Job.{Job}
+use Rattle.sheet_spec.specs.Refusals.{sheetRefusal}
 use Rattle.sheet_spec.specs.Table.{table}
 use Rattle.sheet_spec.specs.Example.{T, jobT}
 use Rattle.reduction_spec.specs.Opened.{reductionOpened}
 use Rattle.cutting_spec.specs.Opened.{cuttingOpened}
-use Rattle.cutting_spec.specs.Cuts.{cutLists}
+use Rattle.stored_spec.specs.Cells.{bitTotal}
+use Rattle.cutting_spec.specs.Cuts.{cutLists, cellsOf}
 use Rattle.stored_spec.specs.Rails.{rails}
 use Rattle.cutting_spec.specs.Choice.{chosen}
+use Rattle.cutting_spec.specs.Greedy.{greedy}
 use Rattle.stored_spec.specs.StoredForm.{wellFormed}
 use Rattle.stored_spec.specs.Run.{run}
 use Rattle.stored_spec.specs.ReadWrite.{read, notRead, cascadeOf, write}
@@ -53,9 +56,19 @@ chosen-D = refl
 abbrev evenJob : Job
 evenJob = record { n = 2; m = 2; K = 4; L = 1; order = 129 ∷ 0 ∷ 1 ∷ 128 ∷ [] }
 
-pub chosen-even : chosen evenJob (1 ∷ 1 ∷ 1 ∷ 1 ∷ 1 ∷ []) ≡ 4 ∷ 2 ∷ 0 ∷ []
+abbrev evenWidths : List ℕ
+evenWidths = 1 ∷ 1 ∷ 1 ∷ 1 ∷ 1 ∷ []
+
+pub chosen-even : chosen evenJob evenWidths ≡ 4 ∷ 2 ∷ 0 ∷ []
 unfolding sheetOpened cuttingOpened
 chosen-even = refl
+
+-- these are the widths of the empty sheet; greedy cutting has as many cells there and more bits
+pub greedy-even : (sheetRefusal evenJob [] ≡ 0) × (made evenJob (table evenJob []) .widths ≡ evenWidths) × (greedy evenJob evenWidths ≡ 4 ∷ 1 ∷ 0 ∷ [])
+    × (length (cellsOf evenJob evenWidths (greedy evenJob evenWidths)) ≡ 2) × (length (cellsOf evenJob evenWidths (chosen evenJob evenWidths)) ≡ 2)
+    × (bitTotal (cellsOf evenJob evenWidths (greedy evenJob evenWidths)) ≡ 5) × (bitTotal (cellsOf evenJob evenWidths (chosen evenJob evenWidths)) ≡ 4)
+unfolding sheetOpened reductionOpened cuttingOpened
+greedy-even = (refl, refl, refl, refl, refl, refl, refl)
 
 pub T-made : (made (jobT 3 2) (table (jobT 3 2) T) .widths ≡ widthsT) × (made (jobT 3 2) (table (jobT 3 2) T) .records ≡ recordsA) × (made (jobT 3 2) (table (jobT 3 2) T) .rows ≡ rowsA)
 unfolding sheetOpened reductionOpened cuttingOpened
