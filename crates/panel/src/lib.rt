@@ -8,6 +8,9 @@ ghost use Rattle.sheet_spec.specs.Table.{tabled, fillTable};
 ghost use Rattle.reduction_spec.specs.Reduction.{reducedOf, reduceAs};
 ghost use Rattle.panel_calls.specs.Exported.{compiledOf, compileBytes};
 ghost use Rattle.panel_calls.specs.StateBytes.{called, newBytes, admitBytes, latchBytes, stepBytes};
+use bank_spec::MOST_BLOCKS;
+use panel_calls::BankBytes;
+use panel_calls::ScanBytes;
 use panel_calls::StepNumbers;
 use panel_calls::Totals;
 use reduction_spec::NodeWords;
@@ -90,7 +93,7 @@ pub extern "C" fn cascade_compile(
 
 // A new bank with the scan limit S, and its fresh scan state; 1 where S is out of range, and then both are as they were.
 #[no_mangle]
-pub extern "C" fn cascade_bank_new(limit: usize, bank: &mut [u8; 651], scan: &mut [u8; 85]) -> u8
+pub extern "C" fn cascade_bank_new(limit: usize, bank: &mut BankBytes, scan: &mut ScanBytes) -> u8
     ensures { λ r. ⌜ called r (now (bank .exit)) (now (scan .exit)) [] ≡ newBytes limit (now (bank .entry)) (now (scan .entry)) ⌝ }
 {
     panel_calls::new_bank(limit, bank, scan)
@@ -99,8 +102,8 @@ pub extern "C" fn cascade_bank_new(limit: usize, bank: &mut [u8; 651], scan: &mu
 // Admits a block, its records and its rows, and appends the rows to the row memory: 0, or 12, 13, 14 or 11 and nothing changes.
 #[no_mangle]
 pub extern "C" fn cascade_admit(
-    bank: &mut [u8; 651],
-    scan: &mut [u8; 85],
+    bank: &mut BankBytes,
+    scan: &mut ScanBytes,
     records: &[u8],
     bytes: &[u8],
     rows: &mut [u8],
@@ -114,7 +117,11 @@ pub extern "C" fn cascade_admit(
 
 // Latches eight words and starts a scan: 0, or 12 and nothing changes.
 #[no_mangle]
-pub extern "C" fn cascade_latch(bank: &[u8; 651], scan: &mut [u8; 85], words: &[u16; 8]) -> u8
+pub extern "C" fn cascade_latch(
+    bank: &BankBytes,
+    scan: &mut ScanBytes,
+    words: &[u16; MOST_BLOCKS],
+) -> u8
     ensures { λ r.
         ⌜ called r (now (bank .entry)) (now (scan .exit)) [] ≡ latchBytes (now (bank .entry)) (now (scan .entry)) (now (words .entry)) ⌝ }
 {
@@ -123,7 +130,7 @@ pub extern "C" fn cascade_latch(bank: &[u8; 651], scan: &mut [u8; 85], words: &[
 
 // Moves the scan on by one read of the row memory; where nothing is read nothing changes.
 #[no_mangle]
-pub extern "C" fn cascade_step(bank: &[u8; 651], scan: &mut [u8; 85], rows: &[u8]) -> StepNumbers
+pub extern "C" fn cascade_step(bank: &BankBytes, scan: &mut ScanBytes, rows: &[u8]) -> StepNumbers
     ensures { λ r.
         ⌜ called r (now (bank .entry)) (now (scan .exit)) (now (rows .entry)) ≡ stepBytes (now (bank .entry)) (now (scan .entry)) (now (rows .entry)) ⌝ }
 {

@@ -12,9 +12,22 @@ use crate::state_bytes::bank_in;
 use crate::state_bytes::put_bank;
 use crate::state_bytes::put_scan;
 use crate::state_bytes::scan_in;
+use bank_spec::BANK_OUTPUTS;
+use bank_spec::BANK_RECORD_BYTES;
+use bank_spec::MOST_BLOCKS;
 use bank_spec::StepAnswer;
 use cutting::Compilation;
 use reduction_spec::Widths;
+use sheet_spec::MOST_VARIABLES;
+
+// A bank and a scan state as bytes (specs/StateBytes.antt says what stands where).
+pub const BANK_BYTES: usize = 3 + MOST_BLOCKS + BANK_RECORD_BYTES;
+
+pub const SCAN_BYTES: usize = 5 + 2 * MOST_BLOCKS + BANK_OUTPUTS;
+
+pub type BankBytes = [u8; BANK_BYTES];
+
+pub type ScanBytes = [u8; SCAN_BYTES];
 
 // The compiler's answer: a refusal, 1 to 11, or 0 and the totals.
 #[repr(C)]
@@ -40,7 +53,7 @@ fn copy_widths(from: &Widths, to: &mut Widths)
     ensures { λ _. ⌜ now (to .exit) ≡ puts 20 (λ h. getD (now (from .entry)) h 0) (now (to .entry)) ⌝ }
 {
     let mut h = 0;
-    while h < 20 {
+    while h < MOST_VARIABLES {
         to[h] = from[h];
         h += 1;
     }
@@ -86,7 +99,7 @@ pub fn compile(
 }
 
 // A new bank with the scan limit S, and its fresh scan state; 1 where S is out of range, and then both are as they were.
-pub fn new_bank(limit: usize, bank: &mut [u8; 651], scan: &mut [u8; 85]) -> u8
+pub fn new_bank(limit: usize, bank: &mut BankBytes, scan: &mut ScanBytes) -> u8
     ensures { λ r. ⌜ called r (now (bank .exit)) (now (scan .exit)) [] ≡ newBytes limit (now (bank .entry)) (now (scan .entry)) ⌝ }
 {
     if 255 < limit {
@@ -104,8 +117,8 @@ pub fn new_bank(limit: usize, bank: &mut [u8; 651], scan: &mut [u8; 85]) -> u8
 
 // Admits a block, its records and its rows, and appends the rows to the row memory: 0, or 12, 13, 14 or 11 and nothing changes.
 pub fn admit(
-    bank: &mut [u8; 651],
-    scan: &mut [u8; 85],
+    bank: &mut BankBytes,
+    scan: &mut ScanBytes,
     records: &[u8],
     bytes: &[u8],
     rows: &mut [u8],
@@ -125,7 +138,7 @@ pub fn admit(
 }
 
 // Latches eight words and starts a scan: 0, or 12 and nothing changes.
-pub fn latch(bank: &[u8; 651], scan: &mut [u8; 85], words: &[u16; 8]) -> u8
+pub fn latch(bank: &BankBytes, scan: &mut ScanBytes, words: &[u16; MOST_BLOCKS]) -> u8
     ensures { λ r.
         ⌜ called r (now (bank .entry)) (now (scan .exit)) [] ≡ latchBytes (now (bank .entry)) (now (scan .entry)) (now (words .entry)) ⌝ }
 {
@@ -138,7 +151,7 @@ pub fn latch(bank: &[u8; 651], scan: &mut [u8; 85], words: &[u16; 8]) -> u8
 }
 
 // Moves the scan on by one read of the row memory; where nothing is read nothing changes.
-pub fn step(bank: &[u8; 651], scan: &mut [u8; 85], rows: &[u8]) -> StepNumbers
+pub fn step(bank: &BankBytes, scan: &mut ScanBytes, rows: &[u8]) -> StepNumbers
     ensures { λ r.
         ⌜ called r (now (bank .entry)) (now (scan .exit)) (now (rows .entry)) ≡ stepBytes (now (bank .entry)) (now (scan .entry)) (now (rows .entry)) ⌝ }
 {

@@ -5,8 +5,16 @@ ghost use lib.ListN.{getD};
 ghost use Rattle.laws.specs.Bits.{flag};
 ghost use Rattle.laws.specs.Lists.{tab, puts, putsAt};
 ghost use Rattle.panel_calls.specs.StateBytes.{pairAt, bankIn, scanIn, bankBytes, wordByte, scanBytes};
+use crate::BankBytes;
+use crate::ScanBytes;
+use bank_spec::BANK_OUTPUTS;
+use bank_spec::BANK_RECORD_BYTES;
 use bank_spec::Bank;
+use bank_spec::MOST_BLOCKS;
 use bank_spec::Scan;
+
+// The bytes of the words.
+const WORD_BYTES: usize = 2 * MOST_BLOCKS;
 
 // The number in two bytes.
 fn joined(low: u8, high: u8) -> u16
@@ -15,31 +23,31 @@ fn joined(low: u8, high: u8) -> u16
     (low as u16) + 256 * (high as u16)
 }
 
-fn lengths_in(bytes: &[u8; 651]) -> [u8; 8]
+fn lengths_in(bytes: &BankBytes) -> [u8; MOST_BLOCKS]
     ensures { λ r. ⌜ r ≡ tab 8 (λ i. getD (now (bytes .entry)) (3 + i) 0) ⌝ }
 {
-    let mut lengths = [0u8; 8];
+    let mut lengths = [0u8; MOST_BLOCKS];
     let mut i = 0;
-    while i < 8 {
+    while i < MOST_BLOCKS {
         lengths[i] = bytes[3 + i];
         i += 1;
     }
     lengths
 }
 
-fn records_in(bytes: &[u8; 651]) -> [u8; 640]
+fn records_in(bytes: &BankBytes) -> [u8; BANK_RECORD_BYTES]
     ensures { λ r. ⌜ r ≡ tab 640 (λ i. getD (now (bytes .entry)) (11 + i) 0) ⌝ }
 {
-    let mut records = [0u8; 640];
+    let mut records = [0u8; BANK_RECORD_BYTES];
     let mut i = 0;
-    while i < 640 {
+    while i < BANK_RECORD_BYTES {
         records[i] = bytes[11 + i];
         i += 1;
     }
     records
 }
 
-pub fn bank_in(bytes: &[u8; 651]) -> Bank
+pub fn bank_in(bytes: &BankBytes) -> Bank
     ensures { λ r. ⌜ r ≡ bankIn (now (bytes .entry)) ⌝ }
 {
     Bank {
@@ -50,31 +58,31 @@ pub fn bank_in(bytes: &[u8; 651]) -> Bank
     }
 }
 
-fn words_in(bytes: &[u8; 85]) -> [u16; 8]
+fn words_in(bytes: &ScanBytes) -> [u16; MOST_BLOCKS]
     ensures { λ r. ⌜ r ≡ tab 8 (λ i. pairAt (now (bytes .entry)) (5 + 2 * i)) ⌝ }
 {
-    let mut words = [0u16; 8];
+    let mut words = [0u16; MOST_BLOCKS];
     let mut i = 0;
-    while i < 8 {
+    while i < MOST_BLOCKS {
         words[i] = joined(bytes[5 + 2 * i], bytes[6 + 2 * i]);
         i += 1;
     }
     words
 }
 
-fn outputs_in(bytes: &[u8; 85]) -> [u8; 64]
+fn outputs_in(bytes: &ScanBytes) -> [u8; BANK_OUTPUTS]
     ensures { λ r. ⌜ r ≡ tab 64 (λ i. getD (now (bytes .entry)) (21 + i) 0) ⌝ }
 {
-    let mut outputs = [0u8; 64];
+    let mut outputs = [0u8; BANK_OUTPUTS];
     let mut i = 0;
-    while i < 64 {
+    while i < BANK_OUTPUTS {
         outputs[i] = bytes[21 + i];
         i += 1;
     }
     outputs
 }
 
-pub fn scan_in(bytes: &[u8; 85]) -> Scan
+pub fn scan_in(bytes: &ScanBytes) -> Scan
     ensures { λ r. ⌜ r ≡ scanIn (now (bytes .entry)) ⌝ }
 {
     Scan {
@@ -87,27 +95,27 @@ pub fn scan_in(bytes: &[u8; 85]) -> Scan
     }
 }
 
-fn put_lengths(lengths: &[u8; 8], bytes: &mut [u8; 651])
+fn put_lengths(lengths: &[u8; MOST_BLOCKS], bytes: &mut BankBytes)
     ensures { λ _. ⌜ now (bytes .exit) ≡ putsAt 3 8 (λ i. getD (now (lengths .entry)) i 0) (now (bytes .entry)) ⌝ }
 {
     let mut i = 0;
-    while i < 8 {
+    while i < MOST_BLOCKS {
         bytes[3 + i] = lengths[i];
         i += 1;
     }
 }
 
-fn put_records(records: &[u8; 640], bytes: &mut [u8; 651])
+fn put_records(records: &[u8; BANK_RECORD_BYTES], bytes: &mut BankBytes)
     ensures { λ _. ⌜ now (bytes .exit) ≡ putsAt 11 640 (λ i. getD (now (records .entry)) i 0) (now (bytes .entry)) ⌝ }
 {
     let mut i = 0;
-    while i < 640 {
+    while i < BANK_RECORD_BYTES {
         bytes[11 + i] = records[i];
         i += 1;
     }
 }
 
-pub fn put_bank(bank: Bank, bytes: &mut [u8; 651])
+pub fn put_bank(bank: Bank, bytes: &mut BankBytes)
     ensures { λ _. ⌜ now (bytes .exit) ≡ puts 651 (λ i. getD (bankBytes bank) i 0) (now (bytes .entry)) ⌝ }
 {
     let lengths = bank.lengths;
@@ -120,7 +128,7 @@ pub fn put_bank(bank: Bank, bytes: &mut [u8; 651])
 }
 
 // Byte i of the eight words.
-fn word_byte(words: [u16; 8], i: usize) -> u8
+fn word_byte(words: [u16; MOST_BLOCKS], i: usize) -> u8
     requires { ⌜ i < 16 ⌝ }
     ensures { λ r. ⌜ r ≡ wordByte words i ⌝ }
 {
@@ -131,21 +139,21 @@ fn word_byte(words: [u16; 8], i: usize) -> u8
     (w / 256) as u8
 }
 
-fn put_words(words: [u16; 8], bytes: &mut [u8; 85])
+fn put_words(words: [u16; MOST_BLOCKS], bytes: &mut ScanBytes)
     ensures { λ _. ⌜ now (bytes .exit) ≡ putsAt 5 16 (wordByte words) (now (bytes .entry)) ⌝ }
 {
     let mut i = 0;
-    while i < 16 {
+    while i < WORD_BYTES {
         bytes[5 + i] = word_byte(words, i);
         i += 1;
     }
 }
 
-fn put_outputs(outputs: &[u8; 64], bytes: &mut [u8; 85])
+fn put_outputs(outputs: &[u8; BANK_OUTPUTS], bytes: &mut ScanBytes)
     ensures { λ _. ⌜ now (bytes .exit) ≡ putsAt 21 64 (λ i. getD (now (outputs .entry)) i 0) (now (bytes .entry)) ⌝ }
 {
     let mut i = 0;
-    while i < 64 {
+    while i < BANK_OUTPUTS {
         bytes[21 + i] = outputs[i];
         i += 1;
     }
@@ -160,7 +168,7 @@ fn bit_of(b: bool) -> u8
     0
 }
 
-pub fn put_scan(scan: Scan, bytes: &mut [u8; 85])
+pub fn put_scan(scan: Scan, bytes: &mut ScanBytes)
     ensures { λ _. ⌜ now (bytes .exit) ≡ puts 85 (λ i. getD (scanBytes scan) i 0) (now (bytes .entry)) ⌝ }
 {
     let words = scan.words;
