@@ -5,9 +5,11 @@ use mathlib.Core.Bool.{Bool, true, cond, _&&_}
 use mathlib.Core.List.{List}
 use Prim.Native.Nat.{ℕ, _+_, _^_, _≤_, _<_}
 use native.Mathlib.Omega.{arith}
-use lib.Dec.{eqb, leb}
+use lib.Dec.{eqb}
 use Rattle.laws.proofs.Cases.{cond-both}
 use Rattle.sheet_spec.specs.Job.{isInput}
+use Rattle.sheet_spec.specs.Limits.{largestInputs, largestOutputs}
+use Rattle.stored_spec.specs.Cells.{cell, fits}
 use Rattle.stored_spec.specs.StoredForm.{variable, cutByte, railByte, reading}
 use Rattle.stored_spec.proofs.StoredCells.{begunIns, begunOuts, moreIns, moreOuts, endInputs, endOutputs, cellsTo, begin, begun-few, next-ins, next-outs, next-upper, fitAll, rowSum, bytesFit, rowsBelow, fit-next, rows-next, bytes-next}
 
@@ -71,12 +73,12 @@ module _ {R : List ℕ} {i ins outs upper v cut rail more over : ℕ} (t : Turn 
             ∙ ap (λ (x : ℕ). cond (eqb (cutByte R i) 1) (railByte R i) x) (t .begun .upper-is) ∙ sym (next-upper R i);
       }
 
-  pub turn-fit : {f g : Bool} → f ≡ fitAll (cellsTo R i) → g ≡ cond (eqb cut 1) (leb (upper + more) 12 && leb (over + rail) 8) true
+  pub turn-fit : {f g : Bool} → f ≡ fitAll (cellsTo R i) → g ≡ cond (eqb cut 1) (fits largestInputs largestOutputs (cell (upper + more) (over + rail))) true
       → (f && g) ≡ fitAll (cellsTo R (i + 1))
   turn-fit p q =
       ap₂ _&&_ p
-      (q ∙ ap (λ (x : ℕ). cond (eqb x 1) (leb (upper + more) 12 && leb (over + rail) 8) true) (t .cut-is)
-      ∙ ap₂ (λ (x y : ℕ). cond (eqb (cutByte R i) 1) (leb x 12 && leb y 8) true) inputs-now outputs-now)
+      (q ∙ ap (λ (x : ℕ). cond (eqb x 1) (fits largestInputs largestOutputs (cell (upper + more) (over + rail))) true) (t .cut-is)
+      ∙ ap₂ (λ (x y : ℕ). cond (eqb (cutByte R i) 1) (fits largestInputs largestOutputs (cell x y)) true) inputs-now outputs-now)
       ∙ sym (fit-next R i)
 
   pub turn-rows : {n m : ℕ} → n ≡ rowSum (cellsTo R i) → m ≡ cond (eqb cut 1) (2 ^ (upper + more)) 0 → n + m ≡ rowSum (cellsTo R (i + 1))

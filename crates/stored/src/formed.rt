@@ -6,6 +6,8 @@ ghost use lib.Dec.{eqb, leb, ltb};
 ghost use lib.ListN.{length, getD};
 ghost use Rattle.laws.specs.Tests.{every, within};
 ghost use Rattle.sheet_spec.specs.Job.{isInput};
+ghost use Rattle.sheet_spec.specs.Limits.{largestInputs, largestOutputs};
+ghost use Rattle.stored_spec.specs.Cells.{cell, fits};
 ghost use Rattle.stored_spec.specs.StoredForm.{recordCount, variable, cutByte, railByte, recordFormed, cellCount, cellFormed};
 ghost use Rattle.stored_spec.specs.StoredForm.{recordsFormed, rowsFormed, rowCount, wellFormed};
 use crate::casts::power;
@@ -110,17 +112,18 @@ pub fn after(cut: usize, a: usize, b: usize) -> usize
     b
 }
 
-// A cell that a cut ends has at most 12 inputs and 8 outputs.
+// A cell that a cut ends is not larger than the largest.
 fn cell_fits(cut: usize, inputs: usize, outputs: usize) -> bool
-    ensures { λ r. ⌜ r ≡ cond (eqb cut 1) (leb inputs 12 && leb outputs 8) true ⌝ }
+    ensures { λ r. ⌜ r ≡ cond (eqb cut 1) (fits largestInputs largestOutputs (cell inputs outputs)) true ⌝ }
 {
     if cut == 1 {
-        return (inputs <= Cell::MAX_INPUTS) & (outputs <= Cell::MAX_OUTPUTS);
+        let c = Cell { inputs, outputs };
+        return c.fits(Cell::MAX_INPUTS, Cell::MAX_OUTPUTS);
     }
     true
 }
 
-// Each cell has at most 12 inputs and 8 outputs.
+// No cell is larger than the largest.
 pub fn cells_fit(records: &[u8]) -> bool
     requires { do ⌜ (← ⟦records.len()⟧) ≤ 80 ⌝ }
     ensures { λ r. ⌜ r ≡ every (cellCount (now (records .entry))) (cellFormed (now (records .entry))) ⌝ }
@@ -146,13 +149,14 @@ pub fn cells_fit(records: &[u8]) -> bool
     fit
 }
 
-// The rows of a cell that a cut ends.
+// The rows of a cell that a cut ends; its outputs take no part.
 pub fn cell_rows(cut: usize, inputs: usize) -> usize
     requires { ⌜ (cut ≡ 1 → inputs ≤ 12) ⌝ }
     ensures { λ r. ⌜ (r ≡ cond (eqb cut 1) (2 ^ inputs) 0) × (r ≤ 4096) ⌝ }
 {
     if cut == 1 {
-        return power(inputs);
+        let c = Cell { inputs, outputs: 0 };
+        return c.rows();
     }
     0
 }
@@ -236,7 +240,8 @@ fn cell_below(rows: &[u8], cut: usize, at: usize, inputs: usize, outputs: usize)
     ensures { λ r. ⌜ r ≡ cond (eqb cut 1) (every (2 ^ inputs) (λ i. ltb (getD (now (rows .entry)) (at + i) 0) (2 ^ outputs))) true ⌝ }
 {
     if cut == 1 {
-        let count = power(inputs);
+        let c = Cell { inputs, outputs };
+        let count = c.rows();
         let limit = power(outputs);
         return rows_below(rows, at, count, limit);
     }

@@ -7,17 +7,19 @@ use Prim.Native.Nat.{ℕ, zero, suc, _+_, _-_, _^_, _≤_, _<_}
 use native.Mathlib.Nat.{add-zero}
 use native.Mathlib.Numerals.{add-one}
 use native.Mathlib.Omega.{arith}
-use lib.Dec.{eqb, leb, ltb}
+use lib.Dec.{eqb, ltb}
 use lib.ListN.{length, getD, length-append, List·getD-append}
 use lib.Seq.{getD-at}
 use Rattle.laws.specs.Tests.{every, sum}
-use borrow.Author.Tests.{eq-eqb, leb-true}
+use borrow.Author.Tests.{eq-eqb}
 use Rattle.laws.proofs.Cases.{last-or-below, and-split, cond-yes}
 use Rattle.laws.proofs.Tests.{every-ext}
 use Rattle.laws.proofs.Counts.{sum-ext}
 use Rattle.sheet_spec.specs.Job.{isInput}
+use Rattle.sheet_spec.specs.Limits.{largestInputs, largestOutputs}
 use Rattle.stored_spec.specs.Cells.{Cell, cell, fits, rows}
 use Rattle.stored_spec.specs.StoredForm.{StoredCell, Reading, recordCount, variable, cutByte, railByte, appended, withVariable, withCut, reading, storedCells, cellCount, noCell, cellAt, sizeOf, rowsBefore, rowCount, cellFormed, rowsFormed}
+use Rattle.stored_spec.proofs.CellSizes.{fits-split}
 
 -- the reading after i records: of the cell begun its inputs and outputs in number, with record i's variable, and its upper rails
 abbrev pub begunIns : List ℕ → ℕ → ℕ
@@ -101,9 +103,12 @@ module _ (R : List ℕ) (i : ℕ) where
       by true = refl
       by false = refl
 
--- each of the cells fits; the rows of all
+-- not larger than the largest; each of the cells is so; the rows of all
+abbrev sizeFits : StoredCell → Bool
+sizeFits c = fits largestInputs largestOutputs (sizeOf c)
+
 unfoldable pub fitAll : List StoredCell → Bool
-fitAll cs = every (length cs) (λ k. fits 12 8 (sizeOf (getD cs k noCell)))
+fitAll cs = every (length cs) (λ k. sizeFits (getD cs k noCell))
 
 unfoldable pub rowSum : List StoredCell → ℕ
 rowSum cs = sum (length cs) (λ k. rows (sizeOf (getD cs k noCell)))
@@ -131,14 +136,14 @@ module _ (cs : List StoredCell) (c : StoredCell) where
   pub latest : getD (cs ++ (c ∷ [])) (length cs) noCell ≡ c
   latest = getD-at cs c [] noCell (length cs) refl
 
-  pub fit-one-more : fitAll (cs ++ (c ∷ [])) ≡ (fitAll cs && fits 12 8 (sizeOf c))
+  pub fit-one-more : fitAll (cs ++ (c ∷ [])) ≡ (fitAll cs && sizeFits c)
   unfolding fitAll
   fit-one-more =
-      ap (λ (n : ℕ). every n (λ k. fits 12 8 (sizeOf (getD (cs ++ (c ∷ [])) k noCell)))) longer
+      ap (λ (n : ℕ). every n (λ k. sizeFits (getD (cs ++ (c ∷ [])) k noCell))) longer
       ∙ ap₂ _&&_
-      (every-ext (λ k. fits 12 8 (sizeOf (getD (cs ++ (c ∷ [])) k noCell))) (λ k. fits 12 8 (sizeOf (getD cs k noCell))) (length cs)
-      (λ k l. ap (λ (d : StoredCell). fits 12 8 (sizeOf d)) (earlier k l)))
-      (ap (λ (d : StoredCell). fits 12 8 (sizeOf d)) latest)
+      (every-ext (λ k. sizeFits (getD (cs ++ (c ∷ [])) k noCell)) (λ k. sizeFits (getD cs k noCell)) (length cs)
+      (λ k l. ap sizeFits (earlier k l)))
+      (ap sizeFits latest)
 
   pub rows-one-more : rowSum (cs ++ (c ∷ [])) ≡ rowSum cs + rows (sizeOf c)
   unfolding rowSum
@@ -171,14 +176,13 @@ module _ (bytes : List ℕ) (cs : List StoredCell) (c : StoredCell) where
 -- one record more
 module _ (R : List ℕ) (i : ℕ) where
   pub fit-next : fitAll (cellsTo R (i + 1))
-      ≡ (fitAll (cellsTo R i) && cond (eqb (cutByte R i) 1) (leb (endInputs R i) 12 && leb (endOutputs R i) 8) true)
-  unfolding fits
+      ≡ (fitAll (cellsTo R i) && cond (eqb (cutByte R i) 1) (fits largestInputs largestOutputs (cell (endInputs R i) (endOutputs R i))) true)
   fit-next = ap fitAll (next-ended R i) ∙ by (eqb (cutByte R i) 1)
     where
       by : (b : Bool) → fitAll (cond b (cellsTo R i ++ (endedCell R i ∷ [])) (cellsTo R i))
-          ≡ (fitAll (cellsTo R i) && cond b (leb (endInputs R i) 12 && leb (endOutputs R i) 8) true)
+          ≡ (fitAll (cellsTo R i) && cond b (fits largestInputs largestOutputs (cell (endInputs R i) (endOutputs R i))) true)
       by true =
-          fit-one-more (cellsTo R i) (endedCell R i) ∙ ap (λ (d : Cell). fitAll (cellsTo R i) && fits 12 8 d) (ended-size R i)
+          fit-one-more (cellsTo R i) (endedCell R i) ∙ ap (λ (d : Cell). fitAll (cellsTo R i) && fits largestInputs largestOutputs d) (ended-size R i)
       by false = sym (and-true (fitAll (cellsTo R i)))
 
   pub rows-next : rowSum (cellsTo R (i + 1)) ≡ rowSum (cellsTo R i) + cond (eqb (cutByte R i) 1) (2 ^ endInputs R i) 0
@@ -260,13 +264,13 @@ rows-rise R i (suc n) l =
 
 -- a cell that fits
 module _ (R : List ℕ) (fit : every (cellCount R) (cellFormed R) ≡ true) (i : ℕ) (l : i < recordCount R) (c : cutByte R i ≡ 1) where
-  pub cell-small : (endInputs R i ≤ 12) × (endOutputs R i ≤ 8)
+  pub cell-small : (endInputs R i ≤ largestInputs) × (endOutputs R i ≤ largestOutputs)
   cell-small =
+      let size : Cell = cell (endInputs R i) (endOutputs R i) in
       let a = fit-fewer R (i + 1) (recordCount R) (omega arith) (fit-all R ∙ fit) in
       let b = and-split (fitAll (cellsTo R i)) _ (sym (fit-next R i) ∙ a) .1 in
-      let d = sym (cond-yes (eqb (cutByte R i) 1) (leb (endInputs R i) 12 && leb (endOutputs R i) 8) true (eq-eqb (cutByte R i) 1 c)) ∙ b in
-      let e = and-split (leb (endInputs R i) 12) (leb (endOutputs R i) 8) d in
-      (leb-true (endInputs R i) 12 (e .0), leb-true (endOutputs R i) 8 (e .1))
+      let d = sym (cond-yes (eqb (cutByte R i) 1) (fits largestInputs largestOutputs size) true (eq-eqb (cutByte R i) 1 c)) ∙ b in
+      fits-split largestInputs largestOutputs size d
 
   pub cell-inside : rowSum (cellsTo R i) + 2 ^ endInputs R i ≤ rowCount R
   cell-inside =
