@@ -1,6 +1,6 @@
 // Numbers of one size as numbers of another.
 ghost use mathlib.Core.Path.{_≡_};
-ghost use Prim.Native.Nat.{_-_, _^_, _<_, _≤_};
+ghost use Prim.Native.Nat.{_-_, _<_, _≤_};
 
 pub fn narrow(x: usize) -> u8
     requires { ⌜ x < 256 ⌝ }
@@ -24,11 +24,4 @@ pub fn less(a: usize, b: usize) -> usize
         return 0;
     }
     a - b
-}
-
-pub fn power(n: usize) -> usize
-    requires { ⌜ n ≤ 12 ⌝ }
-    ensures { λ r. ⌜ (r ≡ 2 ^ n) × (r ≤ 4096) ⌝ }
-{
-    1 << n
 }

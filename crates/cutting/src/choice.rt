@@ -1,13 +1,12 @@
 // The chosen cut list, by the best way from each height down to 0.
 ghost use mathlib.Core.Path.{_≡_};
 ghost use mathlib.Core.Bool.{cond};
-ghost use Prim.Native.Nat.{ℕ, _≤_, _<_, _+_, _-_, _*_, _^_};
+ghost use Prim.Native.Nat.{ℕ, _≤_, _<_, _+_, _-_};
 ghost use lib.ListN.{getD};
 ghost use Rattle.laws.specs.Lists.{puts};
 ghost use Rattle.cutting.specs.Ways.{fewer, withCutAt, listCell, listWay, cutsFrom, bitsFrom, nextFrom};
 use crate::casts::less;
 use crate::casts::narrow;
-use crate::casts::power;
 use numbers::wide;
 use stored_spec::Cell;
 
@@ -31,14 +30,6 @@ fn one_less(a: u8) -> u8
         return 0;
     }
     a - 1
-}
-
-// The bits of a cell.
-fn bits_of(i: usize, o: usize) -> u32
-    requires { ⌜ (i ≤ 12) × (o ≤ 8) ⌝ }
-    ensures { λ r. ⌜ (r ≡ 2 ^ i * o) × (r ≤ 32768) ⌝ }
-{
-    (power(i) * o) as u32
 }
 
 // The cell between the cuts a and b.
@@ -83,25 +74,20 @@ fn with_cut(k: usize, l: usize, c: Cell, g: u8, w: Way, v: Way) -> Way
     requires { ⌜ (k ≤ 12) × (l ≤ 8) × (w .cuts ≤ 21) × (w .bits ≤ 655360) ⌝ }
     ensures { λ r. ⌜ r ≡ withCutAt k l c g w v ⌝ }
 {
-    let i = c.inputs;
-    let o = c.outputs;
-    if k < i {
-        return v;
+    if c.fits(k, l) {
+        let cuts = w.cuts;
+        if cuts == 0 {
+            return v;
+        }
+        let bits = c.bits() as u32;
+        let u = Way {
+            cuts: cuts + 1,
+            bits: bits + w.bits,
+            next: g,
+        };
+        return better_of(u, v);
     }
-    if l < o {
-        return v;
-    }
-    let cuts = w.cuts;
-    if cuts == 0 {
-        return v;
-    }
-    let bits = bits_of(i, o);
-    let u = Way {
-        cuts: cuts + 1,
-        bits: bits + w.bits,
-        next: g,
-    };
-    better_of(u, v)
+    v
 }
 
 // The cuts and bits of the way from g.

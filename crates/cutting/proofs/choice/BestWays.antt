@@ -4,19 +4,19 @@ use mathlib.Core.Path.{_≡_, refl, sym, _∙_, ap, ap₂}
 use mathlib.Core.Logic.{_⊎_, inl, inr}
 use mathlib.Core.Bool.{Bool, true, false, true≢false}
 use mathlib.Core.List.{[]}
-use Prim.Native.Nat.{ℕ, zero, suc, _+_, _*_, _^_, _<_, _≤_}
-use native.Mathlib.Nat.{mul-le-mul, le-trans}
+use Prim.Native.Nat.{ℕ, zero, suc, _+_, _*_, _<_, _≤_}
 use native.Mathlib.Numerals.{add-one}
 use native.Mathlib.Omega.{arith}
-use lib.Dec.{leb, ltb}
+use lib.Dec.{ltb}
 use lib.ListN.{length, getD, length-append, List·getD-append}
 use lib.Seq.{getD-at}
-use lib.Pow.{pow-mono}
-use borrow.Author.Tests.{leb-true, ltb-true, ltb-false, le-ltb, ne-eqb}
+use borrow.Author.Tests.{ltb-true, ltb-false, le-ltb, ne-eqb}
 use Rattle.laws.proofs.Cases.{by-test, by-less, either, last-or-below, and-split}
+use Rattle.sheet_spec.specs.Limits.{largestInputs, largestOutputs}
 use Rattle.stored_spec.specs.declared.Cell.{Cell}
-use Rattle.stored_spec.specs.Cells.{fits, bits, rows}
+use Rattle.stored_spec.specs.Cells.{fits, bits}
 use Rattle.cutting.specs.Ways.{Way, noWay, bottomWay, fewer, through, goes, withCutAt, wayBelow, ways, wayFrom}
+use Rattle.stored_spec.proofs.CellSizes.{fits-largest, usable-bits, bits-small}
 use Rattle.cutting_spec.proofs.Better.{first, first-same, first-more, first-yes, first-no}
 
 -- u = (a, c) comes before v = (b, d), and (e, f) not before v: then not before u
@@ -193,16 +193,10 @@ module _ (C D : ℕ → ℕ → Cell) (k l t : ℕ) (same : (h g : ℕ) → h �
   unfolding wayFrom
   way-same h p = rw (ways-same h p)
 
--- cells of at most 12 inputs and 8 outputs: few cuts, few bits
-module _ (C : ℕ → ℕ → Cell) (k l : ℕ) (ins : k ≤ 12) (outs : l ≤ 8) where
-  pub bits-small : (c : Cell) → fits k l c ≡ true → bits c ≤ 32768
-  unfolding fits bits rows
-  bits-small c e =
-      let (i, o) = and-split (leb (c .inputs) k) (leb (c .outputs) l) e in
-      let a = leb-true (c .inputs) k i in
-      let b = leb-true (c .outputs) l o in
-      let p : 2 ^ c .inputs ≤ 4096 = pow-mono {j = 12} (omega arith) in
-      omega (arith, mul-le-mul p (le-trans b outs))
+-- cells not larger than the largest: few cuts, few bits
+module _ (C : ℕ → ℕ → Cell) (k l : ℕ) (ins : k ≤ largestInputs) (outs : l ≤ largestOutputs) where
+  few-bits : (c : Cell) → fits k l c ≡ true → bits c ≤ 32768
+  few-bits c e = omega (arith, usable-bits c (fits-largest k l c ins outs e), bits-small c)
 
   pub record Small (h : ℕ) (w : Way) : Type 0 where
     pub cuts : w .cuts ≤ h + 1
@@ -220,7 +214,7 @@ module _ (C : ℕ → ℕ → Cell) (k l : ℕ) (ins : k ≤ 12) (outs : l ≤ 8
       let s = low g p in
       let c : v .cuts ≡ wayFrom C k l g .cuts + 1 = ap (λ (w : Way). w .cuts) (b .is) in
       let d : v .bits ≡ bits (C (suc h) g) + wayFrom C k l g .bits = ap (λ (w : Way). w .bits) (b .is) in
-      let e = bits-small (C (suc h) g) (and-split (fits k l (C (suc h) g)) (ltb 0 (wayFrom C k l g .cuts)) (b .open-there) .0) in
+      let e = few-bits (C (suc h) g) (and-split (fits k l (C (suc h) g)) (ltb 0 (wayFrom C k l g .cuts)) (b .open-there) .0) in
       let few = s .cuts in
       let low = s .bits in
       record { cuts = omega arith; bits = omega arith; next = omega arith })

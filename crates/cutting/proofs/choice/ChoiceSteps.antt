@@ -1,15 +1,17 @@
 -- Steps of the choice of a way, one for each answer.
 -- Assumes nothing.
 use mathlib.Core.Path.{_≡_, refl, sym, _∙_}
-use mathlib.Core.Bool.{cond}
+use mathlib.Core.Bool.{true, false, cond}
 use mathlib.Core.List.{List}
-use Prim.Native.Nat.{ℕ, zero, suc, _+_, _*_, _^_, _<_, _≤_}
+use Prim.Native.Nat.{ℕ, zero, suc, _+_, _<_, _≤_}
 use native.Mathlib.Numerals.{add-one}
 use native.Mathlib.Omega.{arith}
-use borrow.Author.Tests.{lt-ltb, le-ltb, le-leb, lt-leb, eq-eqb, ne-eqb}
+use borrow.Author.Tests.{lt-ltb, le-ltb, eq-eqb, ne-eqb}
+use Rattle.sheet_spec.specs.Limits.{largestInputs, largestOutputs}
 use Rattle.stored_spec.specs.declared.Cell.{Cell}
-use Rattle.stored_spec.specs.Cells.{fits, bits, rows}
+use Rattle.stored_spec.specs.Cells.{fits, usableBits}
 use Rattle.cutting.specs.Ways.{Way, fewer, through, goes, withCutAt, wayBelow, listCell, listWay, cutsFrom, bitsFrom}
+use Rattle.stored_spec.proofs.CellSizes.{fits-largest, usable-bits}
 use Rattle.cutting.proofs.choice.BestWays.{way-next, way-bottom, way-small}
 
 -- the better of two ways
@@ -37,23 +39,22 @@ module _ (u v : Way) where
 
 -- the way through a cut
 module _ (k l : ℕ) (c : Cell) (g : ℕ) (w v : Way) where
-  pub stay-inputs : k < c .inputs → v ≡ withCutAt k l c g w v
-  unfolding withCutAt goes fits
-  stay-inputs p = rw (lt-leb (c .inputs) k p)
+  pub stay-large : fits k l c ≡ false → v ≡ withCutAt k l c g w v
+  unfolding withCutAt goes
+  stay-large e = rw e
 
-  pub stay-outputs : c .inputs ≤ k → l < c .outputs → v ≡ withCutAt k l c g w v
-  unfolding withCutAt goes fits
-  stay-outputs q p = rw (le-leb (c .inputs) k q, lt-leb (c .outputs) l p)
+  module _ (fit : fits k l c ≡ true) where
+    pub stay-none : w .cuts ≡ 0 → v ≡ withCutAt k l c g w v
+    unfolding withCutAt goes
+    stay-none e = rw (fit, le-ltb 0 (w .cuts) (omega arith))
 
-  pub stay-none : c .inputs ≤ k → c .outputs ≤ l → w .cuts ≡ 0 → v ≡ withCutAt k l c g w v
-  unfolding withCutAt goes fits
-  stay-none q p e = rw (le-leb (c .inputs) k q, le-leb (c .outputs) l p, le-ltb 0 (w .cuts) (omega arith))
-
-  pub go-through : c .inputs ≤ k → c .outputs ≤ l → (w .cuts ≡ 0 → ⊥) → (b : ℕ) (r : Way) → b ≡ 2 ^ c .inputs * c .outputs
-      → r ≡ cond (fewer (record { cuts = w .cuts + 1; bits = b + w .bits; next = g }) v) (record { cuts = w .cuts + 1; bits = b + w .bits; next = g }) v
-      → r ≡ withCutAt k l c g w v
-  unfolding withCutAt goes fits through bits rows
-  go-through q p n b r x z = rw (le-leb (c .inputs) k q, le-leb (c .outputs) l p, lt-ltb 0 (w .cuts) (omega arith), ← x) z
+    pub go-through : k ≤ largestInputs → l ≤ largestOutputs → (w .cuts ≡ 0 → ⊥) → (b : ℕ) (r : Way) → b ≡ usableBits c
+        → r ≡ cond (fewer (record { cuts = w .cuts + 1; bits = b + w .bits; next = g }) v) (record { cuts = w .cuts + 1; bits = b + w .bits; next = g }) v
+        → r ≡ withCutAt k l c g w v
+    unfolding withCutAt goes through
+    go-through p q n b r x z =
+        let y = x ∙ usable-bits c (fits-largest k l c p q fit) in
+        rw (fit, lt-ltb 0 (w .cuts) (omega arith), ← y) z
 
 -- the way from h, cut after cut
 module _ (k l : ℕ) (rs is : List ℕ) where
@@ -79,6 +80,6 @@ module _ (k l : ℕ) (rs is : List ℕ) where
   unfolding listWay
   way-at-bottom h e = rw e (sym (way-bottom (listCell rs is) k l))
 
-  pub ways-small : k ≤ 12 → l ≤ 8 → (g : ℕ) → g ≤ 20 → (cutsFrom k l rs is g ≤ 21) × (bitsFrom k l rs is g ≤ 655360)
+  pub ways-small : k ≤ largestInputs → l ≤ largestOutputs → (g : ℕ) → g ≤ 20 → (cutsFrom k l rs is g ≤ 21) × (bitsFrom k l rs is g ≤ 655360)
   unfolding listWay
   ways-small p q g r = let s = way-small (listCell rs is) k l p q g in let a = s .cuts in let b = s .bits in (omega arith, omega arith)

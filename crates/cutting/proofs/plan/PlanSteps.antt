@@ -12,16 +12,16 @@ use lib.ListN.{getD, replicate, getD-replicate}
 use lib.Pow.{pow-mono}
 use borrow.Author.Tests.{eq-eqb, ne-eqb}
 use Rattle.laws.specs.Lists.{puts}
-use Rattle.laws.proofs.Cases.{by-less, by-test, cond-yes, cond-no}
+use Rattle.laws.proofs.Cases.{by-less, cond-yes, cond-no}
 use Rattle.laws.proofs.Counts.{count-next, count-max, sum-next}
 use Rattle.laws.proofs.Puts.{stored, getD-unput}
 use Rattle.sheet_spec.specs.Job.{isInput}
 use Rattle.stored_spec.specs.declared.Cell.{Cell}
-use Rattle.stored_spec.specs.Cells.{fits, usableRows}
+use Rattle.stored_spec.specs.Cells.{usableRows}
 use Rattle.stored_spec.specs.Rails.{rails}
 use Rattle.cutting.specs.Ways.{listCell, listWay, cutsFrom, bitsFrom, nextFrom}
 use Rattle.cutting.specs.Plan.{inputsIn, railsIn, cutIn, rowsOf, rowsTo, bytes21, planned}
-use Rattle.stored_spec.proofs.CellSizes.{rows-are, few-rows, rows-none}
+use Rattle.stored_spec.proofs.CellSizes.{rows-small}
 use Rattle.cutting_spec.proofs.RailCounts.{rails-enough, rails-least}
 use Rattle.cutting.proofs.choice.BestWays.{way-falls}
 use Rattle.cutting.proofs.choice.ChoiceSteps.{ways-small}
@@ -76,10 +76,6 @@ module _ (nx : List ℕ) (t : ℕ) where
   unfolding cutIn
   cut-low low l zero = l
   cut-low low l (suc i) = low (cutIn nx t i) (cut-low low l i)
-
-pub rows-small : (c : Cell) → usableRows c ≤ 4096
-rows-small c =
-    by-test (fits 12 8 c) (λ e. omega (arith, rows-are c e, few-rows c e)) (λ e. omega (arith, rows-none c e))
 
 module _ (rs is cs : List ℕ) where
   pub rows-start : 0 ≡ rowsTo rs is cs 0
