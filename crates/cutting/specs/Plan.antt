@@ -9,6 +9,7 @@ use Rattle.laws.specs.Tests.{any, count, sum}
 use Rattle.laws.specs.Lists.{puts, putsAt}
 use Rattle.laws.specs.Bits.{flag}
 use Rattle.sheet_spec.specs.Job.{isInput}
+use Rattle.sheet_spec.specs.Limits.{largestInputs, largestOutputs}
 use Rattle.stored_spec.specs.Cells.{usableRows}
 use Rattle.stored_spec.specs.Rails.{rails}
 use Rattle.cutting.specs.Ways.{listCell, cutsFrom, bitsFrom, nextFrom}
@@ -76,8 +77,8 @@ module _ (t : ℕ) (words order ws rs is : List ℕ) where
   pub record Writable (a b : ℕ) : Type 0 where
     pub upper : a ≤ t
     pub lower : b ≤ t
-    pub rails : getD rs b 0 ≤ 8
-    pub inputs : getD is a 0 - getD is b 0 ≤ 12
+    pub rails : getD rs b 0 ≤ largestOutputs
+    pub inputs : getD is a 0 - getD is b 0 ≤ largestInputs
     pub nodes : firstIn t ws a + widthUp t ws a ≤ 65536
     pub columns : widthUp t ws a * 2 ^ (getD is a 0 - getD is b 0) ≤ usableRows (listCell rs is a b)
     pub bytes : (x : ℕ) → x < usableRows (listCell rs is a b) → rowBetween a b x < 256

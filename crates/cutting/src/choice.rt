@@ -4,6 +4,7 @@ ghost use mathlib.Core.Bool.{cond};
 ghost use Prim.Native.Nat.{ℕ, _≤_, _<_, _+_, _-_};
 ghost use lib.ListN.{getD};
 ghost use Rattle.laws.specs.Lists.{puts};
+ghost use Rattle.sheet_spec.specs.Limits.{largestInputs, largestOutputs};
 ghost use Rattle.cutting.specs.Ways.{fewer, withCutAt, listCell, listWay, cutsFrom, bitsFrom, nextFrom};
 use crate::casts::less;
 use crate::casts::narrow;
@@ -71,7 +72,7 @@ fn better_of(u: Way, v: Way) -> Way
 
 // The better of v and the cell c down to g with the way w from there.
 fn with_cut(k: usize, l: usize, c: Cell, g: u8, w: Way, v: Way) -> Way
-    requires { ⌜ (k ≤ 12) × (l ≤ 8) × (w .cuts ≤ 21) × (w .bits ≤ 655360) ⌝ }
+    requires { ⌜ (k ≤ largestInputs) × (l ≤ largestOutputs) × (w .cuts ≤ 21) × (w .bits ≤ 655360) ⌝ }
     ensures { λ r. ⌜ r ≡ withCutAt k l c g w v ⌝ }
 {
     if c.fits(k, l) {
@@ -112,7 +113,7 @@ fn way_from(
     cuts: &[u8; 21],
     bits: &[u32; 21],
 ) -> Way
-    requires { ⌜ (k ≤ 12) × (l ≤ 8) × (h ≤ 20)
+    requires { ⌜ (k ≤ largestInputs) × (l ≤ largestOutputs) × (h ≤ 20)
         × ((g : ℕ) → g < h → getD (now cuts) g 0 ≡ cutsFrom k l (now rails) (now inputs) g)
         × ((g : ℕ) → g < h → getD (now bits) g 0 ≡ bitsFrom k l (now rails) (now inputs) g) ⌝ }
     ensures { λ r. ⌜ r ≡ listWay k l (now (rails .entry)) (now (inputs .entry)) h ⌝ }
@@ -149,7 +150,7 @@ pub fn choose(
     inputs: &[u8; 21],
     next: &mut [u8; 21],
 ) -> Chosen
-    requires { ⌜ (t ≤ 20) × (k ≤ 12) × (l ≤ 8) ⌝ }
+    requires { ⌜ (t ≤ 20) × (k ≤ largestInputs) × (l ≤ largestOutputs) ⌝ }
     ensures { λ r. ⌜ r .cells ≡ cutsFrom k l (now (rails .entry)) (now (inputs .entry)) t - 1 ⌝ }
     ensures { λ r. ⌜ r .bits ≡ bitsFrom k l (now (rails .entry)) (now (inputs .entry)) t ⌝ }
     ensures { λ _. ⌜ now (next .exit) ≡ puts (t + 1) (nextFrom k l (now (rails .entry)) (now (inputs .entry))) (now (next .entry)) ⌝ }

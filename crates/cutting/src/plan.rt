@@ -5,6 +5,7 @@ ghost use Prim.Native.Nat.{ℕ, _≤_, _<_, _+_};
 ghost use lib.ListN.{length, getD};
 ghost use Rattle.laws.specs.Lists.{puts};
 ghost use Rattle.sheet_spec.specs.Job.{isInput};
+ghost use Rattle.sheet_spec.specs.Limits.{largestInputs, largestOutputs};
 ghost use Rattle.stored_spec.specs.Rails.{rails};
 ghost use Rattle.cutting.specs.Plan.{inputsIn, railsIn, cutIn, rowsTo, planned};
 use crate::casts::narrow;
@@ -110,7 +111,7 @@ fn row_total(cells: usize, rails: &[u8; 21], inputs: &[u8; 21], cuts: &[u8; 21])
 
 // The plan for an order of t variables and the widths at the heights below t.
 pub fn plan_cells(t: usize, k: usize, l: usize, order: &[u8], widths: &Widths) -> Plan
-    requires { ⌜ (t ≤ 20) × (k ≤ 12) × (l ≤ 8) × (length (now order) ≡ t) ⌝ }
+    requires { ⌜ (t ≤ 20) × (k ≤ largestInputs) × (l ≤ largestOutputs) × (length (now order) ≡ t) ⌝ }
     ensures { λ r. ⌜ r ≡ planned t k l (now (order .entry)) (now (widths .entry)) ⌝ }
 {
     let mut inputs = [0u8; 21];

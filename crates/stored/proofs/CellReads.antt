@@ -15,6 +15,7 @@ use Rattle.laws.proofs.Cases.{by-less, by-equal, cond-yes, cond-no, cond-both, 
 use Rattle.laws.proofs.Tests.{every-at}
 use Rattle.laws.proofs.Counts.{sum-le, sum-fixed}
 use Rattle.sheet_spec.specs.Job.{isInput}
+use Rattle.sheet_spec.specs.Limits.{largestInputs, largestOutputs}
 use Rattle.stored_spec.specs.Cells.{fits, rows}
 use Rattle.stored_spec.specs.StoredForm.{StoredCell, Reading, recordCount, variable, cutByte, railByte, appended, withVariable, withCut, reading, storedCells, cellCount, noCell, cellAt, sizeOf, rowsBefore, rowCount, cellFormed, recordsFormed}
 use Rattle.stored_spec.specs.Run.{address, rowPlace, outputsAfter}
@@ -226,15 +227,15 @@ module _ (R : List ℕ) (k : ℕ) where
     pub rails-told : railsTold ≡ true
     rails-told = and-join (le-leb (length R) 80 (cells-told .0)) (told-parts .1)
 
-    fits-at : (i : ℕ) → i < cellCount R → fits 12 8 (sizeOf (cellAt R i)) ≡ true
+    fits-at : (i : ℕ) → i < cellCount R → fits largestInputs largestOutputs (sizeOf (cellAt R i)) ≡ true
     unfolding cellFormed
     fits-at = every-at (cellFormed R) (cellCount R) (cells-told .1)
 
-    pub few-rails : cellAt R k .upper ≤ 12
+    pub few-rails : cellAt R k .upper ≤ largestInputs
     unfolding sizeOf
     few-rails = omega (arith, few-inputs (sizeOf (cellAt R k)) (fits-at k cell-told))
 
-    pub few-outs : length (cellAt R k .outs) + cellAt R k .lower ≤ 8
+    pub few-outs : length (cellAt R k .outs) + cellAt R k .lower ≤ largestOutputs
     unfolding sizeOf
     few-outs = few-outputs (sizeOf (cellAt R k)) (fits-at k cell-told)
 

@@ -15,7 +15,7 @@ pub use Rattle.stored.specs.declared.CellRails.{CellRails}
 unfoldable pub hasCell : List ℕ → ℕ → Bool
 hasCell R k = recordsFormed R && ltb k (cellCount R)
 
--- at most 80 bytes, whose cells have at most 12 inputs and 8 outputs: of these rows can be counted
+-- at most 80 bytes, no cell larger than the largest: of these rows can be counted
 unfoldable pub cellsFit : List ℕ → Bool
 cellsFit R = leb (length R) 80 && every (cellCount R) (cellFormed R)
 

@@ -151,7 +151,7 @@ pub fn cells_fit(records: &[u8]) -> bool
 
 // The rows of a cell that a cut ends; its outputs take no part.
 pub fn cell_rows(cut: usize, inputs: usize) -> usize
-    requires { ⌜ (cut ≡ 1 → inputs ≤ 12) ⌝ }
+    requires { ⌜ (cut ≡ 1 → inputs ≤ largestInputs) ⌝ }
     ensures { λ r. ⌜ (r ≡ cond (eqb cut 1) (2 ^ inputs) 0) × (r ≤ 4096) ⌝ }
 {
     if cut == 1 {
@@ -236,7 +236,7 @@ fn rows_below(rows: &[u8], at: usize, count: usize, limit: usize) -> bool
 
 // The rows of a cell that a cut ends, from place at on, are below 2^outputs.
 fn cell_below(rows: &[u8], cut: usize, at: usize, inputs: usize, outputs: usize) -> bool
-    requires { ⌜ (cut ≡ 1 → (inputs ≤ 12) × (outputs ≤ 8) × (at + 2 ^ inputs ≤ length (now rows))) ⌝ }
+    requires { ⌜ (cut ≡ 1 → (inputs ≤ largestInputs) × (outputs ≤ largestOutputs) × (at + 2 ^ inputs ≤ length (now rows))) ⌝ }
     ensures { λ r. ⌜ r ≡ cond (eqb cut 1) (every (2 ^ inputs) (λ i. ltb (getD (now (rows .entry)) (at + i) 0) (2 ^ outputs))) true ⌝ }
 {
     if cut == 1 {

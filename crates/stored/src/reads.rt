@@ -5,6 +5,7 @@ ghost use Prim.Native.Nat.{_≤_, _<_, _+_, _-_, _*_, _^_};
 ghost use lib.Dec.{leb, ltb};
 ghost use lib.ListN.{length, set};
 ghost use Rattle.laws.specs.Bits.{bit};
+ghost use Rattle.sheet_spec.specs.Limits.{largestOutputs};
 ghost use Rattle.stored_spec.specs.StoredForm.{cellCount, cellAt};
 ghost use Rattle.stored_spec.specs.Run.{address, outputsAfter};
 ghost use Rattle.stored.specs.Reads.{hasCell, cellsFit, rowsCounted, cellRails, rowRead, outputsRead};
@@ -225,7 +226,7 @@ fn one_less(here: bool, n: usize) -> usize
 
 // Stores the bit e of the row at an output v of the cell that is sought.
 fn put_bit(here: bool, v: usize, row: usize, e: usize, outputs: &mut [u8])
-    requires { ⌜ (here ≡ true → 128 ≤ v) × (e ≤ 8) ⌝ }
+    requires { ⌜ (here ≡ true → 128 ≤ v) × (e ≤ largestOutputs) ⌝ }
     ensures { λ _. ⌜ now (outputs .exit) ≡ cond here (set (now (outputs .entry)) (v - 128) (bit row e)) (now (outputs .entry)) ⌝ }
 {
     if here {

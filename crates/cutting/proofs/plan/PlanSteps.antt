@@ -16,6 +16,7 @@ use Rattle.laws.proofs.Cases.{by-less, cond-yes, cond-no}
 use Rattle.laws.proofs.Counts.{count-next, count-max, sum-next}
 use Rattle.laws.proofs.Puts.{stored, getD-unput}
 use Rattle.sheet_spec.specs.Job.{isInput}
+use Rattle.sheet_spec.specs.Limits.{largestInputs, largestOutputs}
 use Rattle.stored_spec.specs.declared.Cell.{Cell}
 use Rattle.stored_spec.specs.Cells.{usableRows}
 use Rattle.stored_spec.specs.Rails.{rails}
@@ -103,7 +104,7 @@ low-bytes n m f s e l low i h =
 
 -- the chosen cuts, by the rails and inputs at each height
 module _ (t k l : ℕ) (rs is : List ℕ) (high : t ≤ 20) where
-  pub cells-few : k ≤ 12 → l ≤ 8 → (n cells : ℕ) → n ≡ cells → cells ≡ cutsFrom k l rs is t - 1 → n ≤ 20
+  pub cells-few : k ≤ largestInputs → l ≤ largestOutputs → (n cells : ℕ) → n ≡ cells → cells ≡ cutsFrom k l rs is t - 1 → n ≤ 20
   cells-few p q n cells e f = let s = ways-small k l rs is p q t high in omega (arith, e, f, s .0)
 
   module _ (nx : List ℕ) (en : nx ≡ puts (t + 1) (nextFrom k l rs is) (replicate 21 0)) where

@@ -9,11 +9,11 @@ use native.Mathlib.Omega.{arith}
 use lib.ListN.{length, getD}
 use lib.Seq.{sets}
 use Rattle.laws.specs.Lists.{joined, putsAt}
-use Rattle.laws.proofs.Cases.{cond-yes}
 use Rattle.laws.proofs.Counts.{sum-ext}
 use Rattle.laws.proofs.Lists.{length-tab, length-joined, joined-front}
 use Rattle.laws.proofs.Puts.{sets-append, putsAt-ext}
 use Rattle.sheet_spec.specs.Job.{Job, t, ins, outs}
+use Rattle.sheet_spec.specs.Limits.{largestInputs, largestOutputs}
 use Rattle.sheet_spec.specs.Refusals.{sheetRefusal}
 use Rattle.sheet_spec.specs.Table.{table}
 use Rattle.reduction_spec.specs.Columns.{layers, widthIn}
@@ -29,7 +29,7 @@ use Rattle.cutting_spec.specs.Compile.{widthsOf}
 use Rattle.cutting.specs.Plan.{widthUp, firstIn, rowsOf, rowsTo, rowBetween, Writable, rowsStored}
 use Rattle.cutting_spec.proofs.StoredCuts.{cuts-fall, cuts-most}
 use Rattle.cutting_spec.proofs.RailCounts.{width-at}
-use Rattle.stored_spec.proofs.CellSizes.{few-inputs, few-outputs}
+use Rattle.stored_spec.proofs.CellSizes.{few-inputs, few-outputs, usable-rows}
 use Rattle.cutting.proofs.cell_rows.RowsWritten.{upper-fit, columns-fit, nodes-within, stored-byte, rows-written}
 use Rattle.cutting_spec.proofs.StoredWell.{fit-at}
 use Rattle.cutting.proofs.choice.WaysGiveChosen.{cell-same}
@@ -50,7 +50,7 @@ cascade-joined j f ls vs (a ∷ b ∷ l) =
 module _ (j : Job) (s : List ℕ) (e : sheetRefusal j s ≡ 0) (narrow : refuse7 j (table j s) ≡ false)
     (ws rs is cs l words : List ℕ)
     (cuts : CutList (t j) l)
-    (fit : allFit 12 8 (cellsOf j (widthsOf (layers j (reduced j (table j s)))) l) ≡ true)
+    (fit : allFit largestInputs largestOutputs (cellsOf j (widthsOf (layers j (reduced j (table j s)))) l) ≡ true)
     (widths-are : (h : ℕ) → h ≤ t j → widthUp (t j) ws h ≡ widthIn (layers j (reduced j (table j s))) h)
     (firsts-are : (h : ℕ) → h ≤ t j → firstIn (t j) ws h ≡ firstAt j (layers j (reduced j (table j s))) h)
     (rails-are : (h : ℕ) → h ≤ t j → getD rs h 0 ≡ railsAt j (widthsOf (layers j (reduced j (table j s)))) h)
@@ -70,7 +70,7 @@ module _ (j : Job) (s : List ℕ) (e : sheetRefusal j s ≡ 0) (narrow : refuse7
   own k = cellRows j f ls vs (getD l k 0) (getD l (suc k) 0)
 
   -- one cell that fits
-  module _ (a b : ℕ) (above : b < a) (within : a ≤ t j) (small : fits 12 8 (cellBetween j vs a b) ≡ true) where
+  module _ (a b : ℕ) (above : b < a) (within : a ≤ t j) (small : fits largestInputs largestOutputs (cellBetween j vs a b) ≡ true) where
     row-is : (x : ℕ) → rowBetween (t j) words (j .order) ws rs is a b x
         ≡ walkedRow words (j .order) a b (firstAt j ls a) (widthIn ls a) (firstAt j ls b) (railsAt j vs b) (ins j a - ins j b) x
     unfolding rowBetween
@@ -79,10 +79,10 @@ module _ (j : Job) (s : List ℕ) (e : sheetRefusal j s ≡ 0) (narrow : refuse7
         rw (firsts-are a within, widths-are a within, firsts-are b low, rails-are b low, inputs-are a within, inputs-are b low) refl
 
     size-is : usableRows (listCell rs is a b) ≡ 2 ^ cellInputs j vs a b
-    unfolding usableRows rows cellBetween
+    unfolding rows cellBetween
     size-is =
         ap usableRows (cell-same j vs rs is rails-are inputs-are a b within above)
-        ∙ cond-yes (fits 12 8 (cellBetween j vs a b)) (rows (cellBetween j vs a b)) 0 small
+        ∙ usable-rows (cellBetween j vs a b) small
 
     size-length : usableRows (listCell rs is a b) ≡ length (cellRows j f ls vs a b)
     unfolding cellRows
@@ -92,8 +92,8 @@ module _ (j : Job) (s : List ℕ) (e : sheetRefusal j s ≡ 0) (narrow : refuse7
     unfolding cellBetween cellInputs cellOutputs
     writable =
         let low : b ≤ t j = omega arith in
-        let inputs : railsAt j vs a + (ins j a - ins j b) ≤ 12 = few-inputs (cellBetween j vs a b) small in
-        let outputs : outs j a - outs j b + railsAt j vs b ≤ 8 = few-outputs (cellBetween j vs a b) small in
+        let inputs : railsAt j vs a + (ins j a - ins j b) ≤ largestInputs = few-inputs (cellBetween j vs a b) small in
+        let outputs : outs j a - outs j b + railsAt j vs b ≤ largestOutputs = few-outputs (cellBetween j vs a b) small in
         let count : getD is a 0 - getD is b 0 ≡ ins j a - ins j b = ap₂ (λ (x y : ℕ). x - y) (inputs-are a within) (inputs-are b low) in
         record {
           upper = within;
@@ -123,8 +123,8 @@ module _ (j : Job) (s : List ℕ) (e : sheetRefusal j s ≡ 0) (narrow : refuse7
     lower-is : getD cs (i + 1) 0 ≡ getD l (suc i) 0
     lower-is = ap (λ (k : ℕ). getD cs k 0) (add-one i) ∙ cuts-are (suc i) (omega arith)
 
-    fits-there : fits 12 8 (cellBetween j vs (getD l i 0) (getD l (suc i) 0)) ≡ true
-    fits-there = fit-at j vs 12 8 l i fit (omega arith)
+    fits-there : fits largestInputs largestOutputs (cellBetween j vs (getD l i 0) (getD l (suc i) 0)) ≡ true
+    fits-there = fit-at j vs largestInputs largestOutputs l i fit (omega arith)
 
     falls : getD l (suc i) 0 < getD l i 0
     falls = cuts-fall cuts i (omega arith)
