@@ -1,5 +1,5 @@
--- The words of a diagram: the words of a node, the children of the node of a prefix, and that prefixes have the same node where they have
--- the same column. A table of at most 10,240 nodes stands in the node words.
+-- The nodes of a diagram: the children of the node of a prefix, and that prefixes have the same node where they have the same column. The
+-- words of a table of at most 10,240 nodes say the same.
 -- Assumes nothing.
 use mathlib.Core.Path.{_≡_, refl, sym, _∙_, ap, ap₂}
 use mathlib.Core.Bool.{Bool, true, false, cond, not}
@@ -7,13 +7,13 @@ use mathlib.Core.List.{List, [], _∷_}
 use Prim.Native.Nat.{ℕ, zero, suc, _+_, _-_, _*_, _/_, _^_, _<_, _≤_}
 use native.Mathlib.Nat.{add-zero, zero-add}
 use native.Mathlib.Omega.{arith}
-use borrow.Author.Tests.{lt-ltb, ne-eqb}
+use borrow.Author.Tests.{lt-ltb, le-ltb, ne-eqb}
 use lib.Dec.{eqb, ltb}
-use lib.ListN.{length, getD, length-append}
+use lib.ListN.{length, getD, length-append, List·getD-eq-default}
 use lib.Pow.{pow-pos}
 use Rattle.laws.specs.Tests.{sum}
 use Rattle.laws.specs.Lists.{tab}
-use Rattle.laws.proofs.Cases.{cond-yes, cond-no, cond-both}
+use Rattle.laws.proofs.Cases.{by-less, cond-yes, cond-no, cond-both}
 use Rattle.laws.proofs.Lists.{length-tab, getD-tab}
 use Rattle.sheet_spec.specs.Job.{Job, t, ins, outs, varAt, isInput}
 use Rattle.sheet_spec.specs.Refusals.{notEachOnce}
@@ -21,7 +21,7 @@ use Rattle.sheet_spec.proofs.LinesSettled.{insBelow, insBelow-at}
 use Rattle.sheet_spec.proofs.Orders.{ins-rise, outs-rise, ins-all, outs-all}
 use Rattle.reduction_spec.specs.Columns.{entry, same, firsts, numberIn, firstsAt, numberAt, width, layers, layer, widthIn}
 use Rattle.reduction_spec.specs.Diagram.{Node, node, nodesAbove, nodeOf, inputNode, outputNode, topValue, nodeAt, nodesTo, nodes, nodeWords}
-use Rattle.reduction_spec.specs.Walk.{lowOf, highOf}
+use Rattle.reduction_spec.specs.Walk.{lowIn, highIn, lowOf, highOf}
 use Rattle.reduction_spec.proofs.ColumnNumbers.{same-entry, entry-same, number-below, number-same, numberIn-equal, equal-number}
 use Rattle.reduction_spec.proofs.MergeKeeps.{same-deeper}
 use Rattle.reduction_spec.proofs.MergeKeepsOrderRule.{Ruled}
@@ -90,40 +90,36 @@ module _ (j : Job) (f : List ℕ) (ls : List (List ℕ)) where
       ap (λ (k : ℕ). length (nodesTo j f ls k)) up ∙ height-length h in
       omega (arith, heights-length (t j - suc h) (omega arith))
 
--- the children of a node inside the table are the words that stand there
-pub low-within : (ws : List ℕ) (v : ℕ) → v < 10242 → lowOf ws v ≡ getD ws ((v - 2) * 3 + 1) 0
-low-within ws v h = cond-yes (ltb v 10242) _ 0 (lt-ltb v 10242 h)
+-- the words of at most 10,240 nodes say the children that the records hold
+module _ (xs : List Node) (fits : length xs ≤ 10240) (v : ℕ) where
+  past : 10242 ≤ v → getD xs (v - 2) none ≡ none
+  past h = List·getD-eq-default xs none (omega arith)
 
-pub high-within : (ws : List ℕ) (v : ℕ) → v < 10242 → highOf ws v ≡ getD ws ((v - 2) * 3 + 2) 0
-high-within ws v h = cond-yes (ltb v 10242) _ 0 (lt-ltb v 10242 h)
+  pub low-word : lowOf (nodeWords xs) v ≡ lowIn xs v
+  low-word =
+      by-less v 10242 (λ h. cond-yes (ltb v 10242) _ 0 (lt-ltb v 10242 h) ∙ words-low xs (v - 2))
+      (λ h. cond-no (ltb v 10242) _ 0 (le-ltb v 10242 h) ∙ ap (λ (x : Node). x .low) (sym (past h)))
 
--- the words of the node of column c at height h + 1
+  pub high-word : highOf (nodeWords xs) v ≡ highIn xs v
+  high-word =
+      by-less v 10242 (λ h. cond-yes (ltb v 10242) _ 0 (lt-ltb v 10242 h) ∙ words-high xs (v - 2))
+      (λ h. cond-no (ltb v 10242) _ 0 (le-ltb v 10242 h) ∙ ap (λ (x : Node). x .high) (sym (past h)))
+
+-- the record and the height of the node of column c at height h + 1
 module _ (j : Job) (f : List ℕ) (ls : List (List ℕ)) (h c : ℕ) (l : h < t j) (k : c < widthIn ls (suc h)) where
   abbrev place : ℕ
   place = 2 + nodesAbove j ls (suc h) + c
 
-  at-place : (d : Node) → getD (nodes j f ls) (place - 2) d ≡ nodeAt j f ls h c
-  at-place d =
+  node-record : getD (nodes j f ls) (place - 2) none ≡ nodeAt j f ls h c
+  node-record =
       let e : place - 2 ≡ nodesAbove j ls (suc h) + c = omega arith in
-      ap (λ (i : ℕ). getD (nodes j f ls) i d) e ∙ nodes-at j f ls d h c l k
+      ap (λ (i : ℕ). getD (nodes j f ls) i none) e ∙ nodes-at j f ls none h c l k
 
   pub node-height : getD (nodeWords (nodes j f ls)) ((2 + nodesAbove j ls (suc h) + c - 2) * 3) 0 ≡ suc h
   unfolding nodeAt inputNode outputNode
   node-height =
-      words-height (nodes j f ls) (place - 2) ∙ ap (λ (x : Node). x .height) (at-place none)
+      words-height (nodes j f ls) (place - 2) ∙ ap (λ (x : Node). x .height) node-record
       ∙ cond-both (λ (x : Node). x .height ≡ suc h) (isInput (varAt j (suc h))) refl refl
-
-  module _ (fits : length (nodes j f ls) ≤ 10240) where
-    place-within : place < 10242
-    place-within = omega (arith, nodes-room j f ls h l, k)
-
-    pub node-low : lowOf (nodeWords (nodes j f ls)) (2 + nodesAbove j ls (suc h) + c) ≡ (nodeAt j f ls h c) .low
-    node-low =
-        low-within (nodeWords (nodes j f ls)) place place-within ∙ words-low (nodes j f ls) (place - 2) ∙ ap (λ (x : Node). x .low) (at-place none)
-
-    pub node-high : highOf (nodeWords (nodes j f ls)) (2 + nodesAbove j ls (suc h) + c) ≡ (nodeAt j f ls h c) .high
-    node-high =
-        high-within (nodeWords (nodes j f ls)) place place-within ∙ words-high (nodes j f ls) (place - 2) ∙ ap (λ (x : Node). x .high) (at-place none)
 
 -- the order's heights, one by one
 module _ (j : Job) (h : ℕ) where
@@ -253,61 +249,83 @@ module _ (j : Job) (once : notEachOnce (j .n) (j .m) (j .order) ≡ false) (few 
           ap (λ (v : ℕ). getD (wordsOf j f) ((v - 2) * 3) 0) (node-of j f h p)
           ∙ node-height j f (layers j f) h (numberFor j f (suc h) p) l number-fits
 
+      -- its record
+      record-at : getD (nodes j f (layers j f)) (nodeFor j f (suc h) p - 2) none ≡ nodeAt j f (layers j f) h (numberFor j f (suc h) p)
+      record-at =
+          ap (λ (v : ℕ). getD (nodes j f (layers j f)) (v - 2) none) (node-of j f h p)
+          ∙ node-record j f (layers j f) h (numberFor j f (suc h) p) l number-fits
+
+      -- at an input
+      module _ (i : isInput (varAt j (suc h)) ≡ true) where
+        input-at : nodeAt j f (layers j f) h (numberFor j f (suc h) p) ≡ inputNode j f (layers j f) h (leastOf p)
+        unfolding nodeAt
+        input-at = cond-yes (isInput (varAt j (suc h))) _ _ i
+
+        pub input-low-in : lowIn (nodes j f (layers j f)) (nodeFor j f (suc h) p) ≡ nodeFor j f h (p * 2)
+        unfolding inputNode
+        input-low-in =
+            ap (λ (x : Node). x .low) (record-at ∙ input-at)
+            ∙ sym (node-equal j f h (p * 2) (leastOf p * 2) (simp add-zero at (same-input p (leastOf p) 0 (omega arith) i least-same)))
+
+        pub input-high-in : highIn (nodes j f (layers j f)) (nodeFor j f (suc h) p) ≡ nodeFor j f h (p * 2 + 1)
+        unfolding inputNode
+        input-high-in =
+            ap (λ (x : Node). x .high) (record-at ∙ input-at)
+            ∙ sym (node-equal j f h (p * 2 + 1) (leastOf p * 2 + 1) (same-input p (leastOf p) 1 (omega arith) i least-same))
+
+        -- the child for b
+        pub input-child-in : (b : ℕ) → b < 2
+            → cond (eqb b 1) (highIn (nodes j f (layers j f)) (nodeFor j f (suc h) p)) (lowIn (nodes j f (layers j f)) (nodeFor j f (suc h) p))
+            ≡ nodeFor j f h (p * 2 + b)
+        input-child-in zero k = input-low-in ∙ ap (nodeFor j f h) (sym (add-zero (p * 2)))
+        input-child-in (suc zero) k = input-high-in
+        input-child-in (suc (suc b)) k = absurd (omega arith)
+
+      -- at an output
+      module _ (i : isInput (varAt j (suc h)) ≡ false) where
+        output-at : nodeAt j f (layers j f) h (numberFor j f (suc h) p) ≡ outputNode j f (layers j f) h (leastOf p) (topValue j f h (leastOf p))
+        unfolding nodeAt
+        output-at = cond-no (isInput (varAt j (suc h))) _ _ i
+
+        pub output-low-in : lowIn (nodes j f (layers j f)) (nodeFor j f (suc h) p) ≡ cond (eqb (topValue j f h p) 1) 0 (nodeFor j f h p)
+        unfolding outputNode
+        output-low-in =
+            ap (λ (x : Node). x .low) (record-at ∙ output-at)
+            ∙ ap₂ (λ (v u : ℕ). cond (eqb v 1) 0 u) (sym (same-top p (leastOf p) i least-same))
+            (sym (node-equal j f h p (leastOf p) (same-output p (leastOf p) i least-same)))
+
+        pub output-high-in : highIn (nodes j f (layers j f)) (nodeFor j f (suc h) p) ≡ cond (eqb (topValue j f h p) 0) 0 (nodeFor j f h p)
+        unfolding outputNode
+        output-high-in =
+            ap (λ (x : Node). x .high) (record-at ∙ output-at)
+            ∙ ap₂ (λ (v u : ℕ). cond (eqb v 0) 0 u) (sym (same-top p (leastOf p) i least-same))
+            (sym (node-equal j f h p (leastOf p) (same-output p (leastOf p) i least-same)))
+
       -- the table stands in the node words
       module _ (fits : length (nodes j f (layers j f)) ≤ 10240) where
         pub node-within : nodeFor j f (suc h) p < 10242
         node-within = omega (arith, node-below)
 
-        low-word : lowOf (wordsOf j f) (nodeFor j f (suc h) p) ≡ (nodeAt j f (layers j f) h (numberFor j f (suc h) p)) .low
-        low-word = ap (lowOf (wordsOf j f)) (node-of j f h p) ∙ node-low j f (layers j f) h (numberFor j f (suc h) p) l number-fits fits
-
-        high-word : highOf (wordsOf j f) (nodeFor j f (suc h) p) ≡ (nodeAt j f (layers j f) h (numberFor j f (suc h) p)) .high
-        high-word = ap (highOf (wordsOf j f)) (node-of j f h p) ∙ node-high j f (layers j f) h (numberFor j f (suc h) p) l number-fits fits
-
-        -- at an input
         module _ (i : isInput (varAt j (suc h)) ≡ true) where
-          input-at : nodeAt j f (layers j f) h (numberFor j f (suc h) p) ≡ inputNode j f (layers j f) h (leastOf p)
-          unfolding nodeAt
-          input-at = cond-yes (isInput (varAt j (suc h))) _ _ i
-
           pub input-low : lowOf (wordsOf j f) (nodeFor j f (suc h) p) ≡ nodeFor j f h (p * 2)
-          unfolding inputNode
-          input-low =
-              low-word ∙ ap (λ (x : Node). x .low) input-at
-              ∙ sym (node-equal j f h (p * 2) (leastOf p * 2) (simp add-zero at (same-input p (leastOf p) 0 (omega arith) i least-same)))
+          input-low = low-word (nodes j f (layers j f)) fits (nodeFor j f (suc h) p) ∙ input-low-in i
 
           pub input-high : highOf (wordsOf j f) (nodeFor j f (suc h) p) ≡ nodeFor j f h (p * 2 + 1)
-          unfolding inputNode
-          input-high =
-              high-word ∙ ap (λ (x : Node). x .high) input-at
-              ∙ sym (node-equal j f h (p * 2 + 1) (leastOf p * 2 + 1) (same-input p (leastOf p) 1 (omega arith) i least-same))
+          input-high = high-word (nodes j f (layers j f)) fits (nodeFor j f (suc h) p) ∙ input-high-in i
 
-          -- the child for b
           pub input-child : (b : ℕ) → b < 2
               → cond (eqb b 1) (highOf (wordsOf j f) (nodeFor j f (suc h) p)) (lowOf (wordsOf j f) (nodeFor j f (suc h) p)) ≡ nodeFor j f h (p * 2 + b)
-          input-child zero k = input-low ∙ ap (nodeFor j f h) (sym (add-zero (p * 2)))
-          input-child (suc zero) k = input-high
-          input-child (suc (suc b)) k = absurd (omega arith)
+          input-child b k =
+              let xs = nodes j f (layers j f) in
+              ap₂ (λ (u v : ℕ). cond (eqb b 1) u v) (high-word xs fits (nodeFor j f (suc h) p)) (low-word xs fits (nodeFor j f (suc h) p))
+              ∙ input-child-in i b k
 
-        -- at an output
         module _ (i : isInput (varAt j (suc h)) ≡ false) where
-          output-at : nodeAt j f (layers j f) h (numberFor j f (suc h) p) ≡ outputNode j f (layers j f) h (leastOf p) (topValue j f h (leastOf p))
-          unfolding nodeAt
-          output-at = cond-no (isInput (varAt j (suc h))) _ _ i
-
           pub output-low : lowOf (wordsOf j f) (nodeFor j f (suc h) p) ≡ cond (eqb (topValue j f h p) 1) 0 (nodeFor j f h p)
-          unfolding outputNode
-          output-low =
-              low-word ∙ ap (λ (x : Node). x .low) output-at
-              ∙ ap₂ (λ (v u : ℕ). cond (eqb v 1) 0 u) (sym (same-top p (leastOf p) i least-same))
-              (sym (node-equal j f h p (leastOf p) (same-output p (leastOf p) i least-same)))
+          output-low = low-word (nodes j f (layers j f)) fits (nodeFor j f (suc h) p) ∙ output-low-in i
 
           pub output-high : highOf (wordsOf j f) (nodeFor j f (suc h) p) ≡ cond (eqb (topValue j f h p) 0) 0 (nodeFor j f h p)
-          unfolding outputNode
-          output-high =
-              high-word ∙ ap (λ (x : Node). x .high) output-at
-              ∙ ap₂ (λ (v u : ℕ). cond (eqb v 0) 0 u) (sym (same-top p (leastOf p) i least-same))
-              (sym (node-equal j f h p (leastOf p) (same-output p (leastOf p) i least-same)))
+          output-high = high-word (nodes j f (layers j f)) fits (nodeFor j f (suc h) p) ∙ output-high-in i
 
   -- the node at the top is node 2
   pub node-top : (f : List ℕ) (p : ℕ) → 1 ≤ t j → p < 2 ^ (j .n - ins j (t j)) → nodeFor j f (t j) p ≡ 2
