@@ -10,6 +10,7 @@ pub mod Marks
 pub mod Masks
 pub mod Parts
 pub mod Picked
+pub mod PickedBits
 pub mod Powers
 pub mod Puts
 pub mod Tests

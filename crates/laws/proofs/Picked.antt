@@ -1,7 +1,7 @@
 -- Counts that add up, run backwards or cover all numbers; the places that a test picks, and the lists of what it picks.
 -- Assumes nothing.
-use mathlib.Core.Path.{_≡_, refl, sym, _∙_, ap}
-use mathlib.Core.Bool.{Bool, true, false, not, cond, _||_, true≢false}
+use mathlib.Core.Path.{_≡_, refl, sym, _∙_, ap, ap₂}
+use mathlib.Core.Bool.{Bool, true, false, not, cond, _&&_, _||_, and-true, true≢false}
 use mathlib.Core.List.{List, [], _∷_, _++_}
 use Prim.Native.Nat.{ℕ, zero, suc, _+_, _-_, _<_, _≤_}
 use native.Mathlib.Nat.{not-suc-le-zero}
@@ -10,10 +10,10 @@ use lib.Dec.{eqb}
 use lib.ListN.{length, getD, length-append, List·getD-append}
 use lib.Seq.{getD-at}
 use borrow.Author.Tests.{eqb-true, eq-eqb, ne-eqb}
-use Rattle.laws.specs.Tests.{count, any}
+use Rattle.laws.specs.Tests.{count, any, every}
 use Rattle.laws.specs.Bits.{flag}
 use Rattle.laws.proofs.Cases.{by-test, last-or-below}
-use Rattle.laws.proofs.Tests.{any-at, any-of}
+use Rattle.laws.proofs.Tests.{any-at, any-of, every-next}
 use Rattle.laws.proofs.Counts.{count-ext, count-none, count-lt}
 
 -- a count as a sum, from its end and from its front, and counted backwards
@@ -163,3 +163,12 @@ module _ (q : ℕ → ℕ) (a : ℕ) where
       count-or (among q a k) (λ i. eqb (q i) (a + k)) t
       (λ i l e. let r = among-at k i e in ne-eqb (q i) (a + k) (λ s. absurd (omega arith)))
       ∙ omega (arith, count-among t k (λ v l. h v (omega arith)), h k (omega arith))
+
+-- a test of what is not picked, by its number
+pub every-picked : (c F P : ℕ → Bool) (h : ℕ) → ((g : ℕ) → g < h → c g ≡ false → F g ≡ P (count g (λ i. not (c i))))
+    → every h (λ g. c g || F g) ≡ every (count h (λ i. not (c i))) P
+every-picked c F P zero same = refl
+every-picked c F P (suc h) same =
+    let before = every-picked c F P h (λ g l. same g (omega arith)) in
+    by-test (c h) (λ e. rw e (and-true (every h (λ g. c g || F g)) ∙ before))
+    (λ e. rw e (ap₂ _&&_ before (same h (omega arith) e) ∙ sym (every-next P (count h (λ i. not (c i))))))

@@ -1,7 +1,7 @@
 -- Laws of `every`, `any` and `within`.
 -- Assumes nothing.
 use mathlib.Core.Path.{_≡_, refl, sym, _∙_, ap, ap₂}
-use mathlib.Core.Bool.{Bool, true, false, not, _&&_, _||_, or-true, or-false, or-assoc, false≢true, true≢false}
+use mathlib.Core.Bool.{Bool, true, false, not, _&&_, _||_, and-true, and-assoc, or-true, or-false, or-assoc, false≢true, true≢false}
 use Prim.Native.Nat.{ℕ, zero, suc, _+_, _<_, _≤_}
 use native.Mathlib.Nat.{not-suc-le-zero}
 use native.Mathlib.Numerals.{add-one}
@@ -60,6 +60,13 @@ pub every-out : (f : ℕ → Bool) (n : ℕ) → every n f ≡ false → (i : �
 every-out f zero e = absurd (true≢false e)
 every-out f (suc n) e =
     by-test (every n f) (λ p. (n, omega arith, sym (ap (λ (b : Bool). b && f n) p) ∙ e)) (λ p. let r = every-out f n p in (r .0, omega arith, r .2))
+
+-- in two parts
+pub every-parts : (f : ℕ → Bool) (h k : ℕ) → every (h + k) f ≡ (every h f && every k (λ i. f (h + i)))
+every-parts f h zero = let e : h + 0 ≡ h = omega arith in rw e (sym (and-true (every h f)))
+every-parts f h (suc k) =
+    let e : h + suc k ≡ suc (h + k) = omega arith in
+    rw e (ap (λ (b : Bool). b && f (h + k)) (every-parts f h k) ∙ and-assoc (every h f) (every k (λ i. f (h + i))) (f (h + k)))
 
 -- tests that agree below n
 pub every-ext : (f g : ℕ → Bool) (n : ℕ) → ((i : ℕ) → i < n → f i ≡ g i) → every n f ≡ every n g

@@ -14,7 +14,7 @@ use Rattle.sheet_spec.specs.Values.{value, allows, free}
 use Rattle.sheet_spec.specs.Characteristic.{meets, chi}
 
 -- of one output: b is its bit, v its value
-meets-allows : (b v : ℕ) → b < 2 → meets (eqb b 1) v ≡ allows v b
+pub meets-allows : (b v : ℕ) → b < 2 → meets (eqb b 1) v ≡ allows v b
 unfolding meets allows
 meets-allows zero v h = ap (λ (x : Bool). x || eqb v free) (or-false (eqb v 0))
 meets-allows (suc zero) v h = refl
