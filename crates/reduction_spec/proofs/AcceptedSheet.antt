@@ -1,32 +1,50 @@
--- The final table of an accepted sheet: it keeps every value that the sheet forces, no line depends on the inputs below its output, and
--- its diagram has at most 10,240 nodes.
+-- The final table of an accepted sheet: its values are 0, 1 and d, it keeps every value that the sheet forces, no line depends on the
+-- inputs below its output, and its diagram has at most 10,240 nodes.
 -- Assumes nothing.
 use mathlib.Core.Path.{_≡_, sym, _∙_, ap}
-use mathlib.Core.Bool.{false}
+use mathlib.Core.Bool.{false, _&&_}
 use mathlib.Core.List.{List, []}
 use Prim.Native.Nat.{ℕ, zero, suc, _+_, _-_, _*_, _/_, _^_, _<_, _≤_}
 use native.Mathlib.Nat.{div-mul-le-self, suc-mul}
 use native.Mathlib.Omega.{arith}
+use borrow.Author.Tests.{leb-true, not-false}
+use lib.Dec.{leb}
 use lib.ListN.{length, getD, length-append}
+use Rattle.laws.specs.Tests.{within}
 use Rattle.laws.specs.Lists.{tab}
-use Rattle.laws.proofs.Cases.{last-or-below}
+use Rattle.laws.proofs.Cases.{by-test, last-or-below, and-split, cond-yes}
 use Rattle.laws.proofs.Lists.{length-tab, getD-tab}
 use Rattle.sheet_spec.specs.Job.{Job, t}
-use Rattle.sheet_spec.specs.Refusals.{sheetRefusal}
+use Rattle.sheet_spec.specs.Refusals.{outOfRange, refuse1, sheetRefusal}
 use Rattle.sheet_spec.specs.Table.{tableAt, table}
 use Rattle.sheet_spec.specs.Accepted.{Accepted}
-use Rattle.sheet_spec.proofs.Tables.{table-entry}
+use Rattle.sheet_spec.proofs.Tables.{table-entry, table-below}
 use Rattle.sheet_spec.proofs.LeastRefusal.{job-accepted}
 use Rattle.sheet_spec.proofs.LinesSettled.{insBelow, table-ruled}
 use Rattle.reduction_spec.specs.Merge.{reduced, refuse7}
 use Rattle.reduction_spec.specs.Columns.{firstsAt, width, layers, widthIn}
 use Rattle.reduction_spec.specs.Diagram.{nodeAt, nodesTo, nodes}
 use Rattle.reduction_spec.proofs.MergeKeepsOrderRule.{Ruled}
-use Rattle.reduction_spec.proofs.AllMerges.{merged-ruled, reduced-keeps, width-top, width-fits}
+use Rattle.reduction_spec.proofs.AllMerges.{merged-below, merged-ruled, reduced-keeps, width-top, width-fits}
 
 module _ (j : Job) (s : List ℕ) (e : sheetRefusal j s ≡ 0) where
   read : Accepted (j .n) (j .m) (j .order) s
   read = job-accepted j s e
+
+  pub some-variable : 1 ≤ t j
+  unfolding sheetRefusal refuse1 outOfRange
+  some-variable =
+      by-test (refuse1 j) (λ b. let z = sym (cond-yes (refuse1 j) 1 _ b) ∙ e in absurd (omega arith))
+      (λ b.
+      let all = not-false (within 1 12 (j .n) && within 1 8 (j .m) && within 2 12 (j .K) && within 1 8 (j .L)) b in
+      let three = and-split (within 1 12 (j .n) && within 1 8 (j .m) && within 2 12 (j .K)) (within 1 8 (j .L)) all .0 in
+      let two = and-split (within 1 12 (j .n) && within 1 8 (j .m)) (within 2 12 (j .K)) three .0 in
+      let one = and-split (within 1 12 (j .n)) (within 1 8 (j .m)) two .0 in
+      omega (arith, leb-true 1 (j .n) (and-split (leb 1 (j .n)) (leb (j .n) 12) one .0)))
+
+  pub reduced-below : (i : ℕ) → getD (reduced j (table j s)) i 0 < 3
+  unfolding reduced
+  reduced-below = merged-below j (table j s) (table-below (j .n) (j .m) (j .order) s) (t j - 1)
 
   -- what the sheet forces stays
   pub reduced-refines : (k x v : ℕ) → k < j .m → x < 2 ^ j .n → v < 2 → tableAt (j .n) (j .m) (j .order) s k x ≡ v

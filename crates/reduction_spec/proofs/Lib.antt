@@ -1,12 +1,14 @@
 -- Laws of the definitions; other crates may cite those that are `pub`.
 pub mod AcceptedSheet
 pub mod AllMerges
+pub mod ChiLines
 pub mod ColumnNumbers
 pub mod ColumnsBelow
 pub mod CompatiblePlaces
 pub mod CoverPartition
 pub mod DescentReaches
 pub mod DescentSteps
+pub mod DiagramWalks
 mod Examples
 pub mod HeightsInOrder
 pub mod LentAfter
@@ -20,4 +22,5 @@ pub mod OneMerge
 pub mod OneRound
 pub mod ReductionCases
 pub mod SameLinksSameCover
+pub mod VariableBits
 pub mod WalkSteps

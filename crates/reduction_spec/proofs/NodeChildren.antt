@@ -203,6 +203,10 @@ module _ (j : Job) (once : notEachOnce (j .n) (j .m) (j .order) ≡ false) (few 
   pub outs-below : (h : ℕ) → h ≤ t j → outs j h ≤ j .m
   outs-below h l = omega (arith, outs-rise j h (t j) l, outs-all j once few out)
 
+  -- the line of the output at height h + 1
+  pub line-below : (h : ℕ) → h < t j → isInput (varAt j (suc h)) ≡ false → outs j h < j .m
+  line-below h l i = omega (arith, outs-output j h i, outs-below (suc h) l)
+
   module _ (f : List ℕ) (h : ℕ) (l : h < t j) where
     -- the same column at height h + 1: the same columns at height h, and the same value of the topmost output
     same-input : (p q y : ℕ) → y < 2 → isInput (varAt j (suc h)) ≡ true → sameAt j f (suc h) p q ≡ true → sameAt j f h (p * 2 + y) (q * 2 + y) ≡ true
@@ -346,12 +350,9 @@ module _ (j : Job) (once : notEachOnce (j .n) (j .m) (j .order) ≡ false) (few 
     unfolding ins outs
     below-is = insBelow-at (t j) (j .order) h l (ap not i)
 
-    pub line-below : outs j h < j .m
-    line-below = omega (arith, outs-output j h i, outs-below (suc h) l)
-
     pub top-value : (x : ℕ) → x < 2 ^ j .n → topValue j f h (x / 2 ^ ins j h) ≡ getD f (outs j h * 2 ^ j .n + x) 0
     unfolding topValue
     top-value x hx =
         let at : ℕ → ℕ = λ y. getD f (outs j h * 2 ^ j .n + y) 0 in
         ap at (add-zero (x / 2 ^ ins j h * 2 ^ ins j h)) ∙ ap (λ (b : ℕ). at (x / 2 ^ b * 2 ^ b)) (sym below-is)
-        ∙ sym (r (outs j h) x line-below hx)
+        ∙ sym (r (outs j h) x (line-below h l i) hx)

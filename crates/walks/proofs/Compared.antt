@@ -26,9 +26,8 @@ use Rattle.reduction_spec.specs.Merge.{reduced, refuse7}
 use Rattle.reduction_spec.specs.Walk.{lowOf, highOf}
 use Rattle.reduction_spec.specs.Compare.{neitherZero, sameNodes, compatibleNodes, sameColumns, compatibleColumns}
 use Rattle.reduction_spec.proofs.MergeKeepsOrderRule.{Ruled}
-use Rattle.reduction_spec.proofs.AcceptedSheet.{reduced-ruled, nodes-fit}
+use Rattle.reduction_spec.proofs.AcceptedSheet.{reduced-below, reduced-ruled, nodes-fit}
 use Rattle.reduction_spec.proofs.NodeChildren.{wordsOf, nodeFor, ins-input, ins-output, outs-input, outs-output, ins-below, node-from, node-positive, input-low, input-high, output-low, output-high, top-value}
-use Rattle.walks.proofs.WordWalks.{reduced-below}
 use Rattle.walks.proofs.Halves.{same-halves, compatible-halves, same-line, compatible-line}
 use Rattle.reduction_spec.proofs.WalkSteps.{joint, same-self, same-left, same-right, same-step, compatible-step}
 
