@@ -12,6 +12,7 @@ pub mod DiagramWalks
 mod Examples
 pub mod HeightsInOrder
 pub mod LentAfter
+pub mod MergeAnd
 pub mod MergeKeeps
 pub mod MergeKeepsOrderRule
 pub mod NodeChildren
