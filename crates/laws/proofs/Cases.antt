@@ -2,7 +2,7 @@
 -- Assumes nothing.
 use mathlib.Core.Path.{_≡_, refl, sym, _∙_}
 use mathlib.Core.Logic.{_⊎_, inl, inr}
-use mathlib.Core.Bool.{Bool, true, false, cond, _&&_, _||_, false≢true, true≢false, not}
+use mathlib.Core.Bool.{Bool, Bool·beq, true, false, cond, _&&_, _||_, false≢true, true≢false, not}
 use Prim.Native.Nat.{ℕ, suc, _<_, _≤_}
 use native.Mathlib.Nat.{eq-or-lt-of-le, le-of-suc-le-suc}
 use lib.Dec.{ltb, eqb}
@@ -80,6 +80,19 @@ same-test true true f g = refl
 same-test true false f g = absurd (false≢true (f refl))
 same-test false true f g = absurd (false≢true (g refl))
 same-test false false f g = refl
+
+-- the equality test
+pub beq-true : (a b : Bool) → Bool·beq a b ≡ true → a ≡ b
+beq-true true true e = refl
+beq-true true false e = absurd (false≢true e)
+beq-true false true e = absurd (false≢true e)
+beq-true false false e = refl
+
+pub eq-beq : (a b : Bool) → a ≡ b → Bool·beq a b ≡ true
+eq-beq true true e = refl
+eq-beq true false e = absurd (true≢false e)
+eq-beq false true e = absurd (false≢true e)
+eq-beq false false e = refl
 
 pub cond-not : {A : Type 0} (b : Bool) (x y : A) → cond b y x ≡ cond (not b) x y
 cond-not true x y = refl
