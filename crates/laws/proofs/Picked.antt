@@ -12,7 +12,7 @@ use lib.Seq.{getD-at}
 use borrow.Author.Tests.{eqb-true, eq-eqb, ne-eqb}
 use Rattle.laws.specs.Tests.{count, any, every}
 use Rattle.laws.specs.Bits.{flag}
-use Rattle.laws.proofs.Cases.{by-test, last-or-below}
+use Rattle.laws.proofs.Cases.{by-test, by-less, last-or-below, same-test, cond-yes, cond-no}
 use Rattle.laws.proofs.Tests.{any-at, any-of, every-next}
 use Rattle.laws.proofs.Counts.{count-ext, count-none, count-lt}
 
@@ -107,6 +107,18 @@ count-place f (suc n) j h =
     last-or-below j (count n f) (omega arith) (λ s. (n, omega arith, p, sym s)) before)
     (λ p. let h′ : j < count n f = rw p at h in before h′)
 
+-- a test that holds at one number only
+pub count-one : (f : ℕ → Bool) (n k : ℕ) → k < n → f k ≡ true → ((i : ℕ) → i < n → f i ≡ true → i ≡ k) → count n f ≡ 1
+count-one f n k l e only =
+    let some = count-before f n k l e in
+    let two : 1 < count n f → ⊥ =
+    λ m.
+    let (p, p<, fp, cp) = count-place f n 0 (omega arith) in
+    let (q, q<, fq, cq) = count-place f n 1 m in
+    let same : count p f ≡ count q f = ap (λ (i : ℕ). count i f) (only p p< fp ∙ sym (only q q< fq)) in
+    omega arith in
+    by-less 1 (count n f) (λ m. absurd (two m)) (λ m. omega arith)
+
 -- a list to which g h is added at each h that passes the test c
 module _ (c : ℕ → Bool) (g : ℕ → ℕ) (l : ℕ → List ℕ) (start : l 0 ≡ [])
     (more : (h : ℕ) → l (suc h) ≡ cond (c h) (l h ++ (g h ∷ [])) (l h)) where
@@ -152,7 +164,7 @@ module _ (q : ℕ → ℕ) (a : ℕ) where
   unfolding among
   among-at k i e = let r = any-at (λ v. eqb (q i) (a + v)) k e in (r .0, r .1, eqb-true (q i) (a + r .0) (r .2))
 
-  among-of : (k i v : ℕ) → v < k → q i ≡ a + v → among q a k i ≡ true
+  pub among-of : (k i v : ℕ) → v < k → q i ≡ a + v → among q a k i ≡ true
   unfolding among
   among-of k i v h e = any-of (λ v. eqb (q i) (a + v)) k v h (eq-eqb (q i) (a + v) e)
 
@@ -163,6 +175,35 @@ module _ (q : ℕ → ℕ) (a : ℕ) where
       count-or (among q a k) (λ i. eqb (q i) (a + k)) t
       (λ i l e. let r = among-at k i e in ne-eqb (q i) (a + k) (λ s. absurd (omega arith)))
       ∙ omega (arith, count-among t k (λ v l. h v (omega arith)), h k (omega arith))
+
+-- as many numbers pass as there are names, where each name is that of one that passes and of no other
+pub count-named : (f : ℕ → Bool) (name : ℕ → ℕ) (n w : ℕ) → ((k : ℕ) → k < n → f k ≡ true → name k < w)
+    → ((k q : ℕ) → k < n → q < n → f k ≡ true → f q ≡ true → name k ≡ name q → k ≡ q)
+    → ((c : ℕ) → c < w → (k : ℕ) × (k < n) × (f k ≡ true) × (name k ≡ c)) → count n f ≡ w
+count-named f name n w low apart each =
+    count-ext f (among at 0 w) n is ∙ count-among at 0 n w one
+  where
+    -- w where the number does not pass
+    at : ℕ → ℕ
+    at k = cond (f k) (name k) w
+
+    passes : (k c : ℕ) → c < w → at k ≡ 0 + c → (f k ≡ true) × (name k ≡ c)
+    passes k c l e =
+        by-test (f k) (λ p. (p, omega (arith, cond-yes (f k) (name k) w p))) (λ p. absurd (omega (arith, cond-no (f k) (name k) w p)))
+
+    is : (k : ℕ) → k < n → f k ≡ among at 0 w k
+    is k l =
+        same-test (f k) (among at 0 w k)
+        (λ p. among-of at 0 w k (name k) (low k l p) (omega (arith, cond-yes (f k) (name k) w p)))
+        (λ p. let (c, c<, e) = among-at at 0 w k p in passes k c c< e .0)
+
+    one : (c : ℕ) → c < w → count n (λ k. eqb (at k) (0 + c)) ≡ 1
+    one c l =
+        let (k, k<, p, e) = each c l in
+        count-one (λ k. eqb (at k) (0 + c)) n k k< (eq-eqb (at k) (0 + c) (omega (arith, cond-yes (f k) (name k) w p)))
+        (λ i i< t.
+        let (q, d) = passes i c l (eqb-true (at i) (0 + c) t) in
+        apart i k i< k< q p (d ∙ sym e))
 
 -- a test of what is not picked, by its number
 pub every-picked : (c F P : ℕ → Bool) (h : ℕ) → ((g : ℕ) → g < h → c g ≡ false → F g ≡ P (count g (λ i. not (c i))))
