@@ -67,6 +67,14 @@ module _ (f g : ℕ → Bool) where
       let less = count-lt n u h′ k p q in
       by-test (f n) (λ e. rw (e, h n (omega arith) e) (omega arith)) (λ e. rw e (cond-both (λ (r : ℕ). count n f < r) (g n) (omega arith) less)))
 
+-- counted in two parts
+pub count-parts : (c : ℕ → Bool) (h k : ℕ) → count (h + k) c ≡ count h c + count k (λ i. c (h + i))
+count-parts c h zero = let e : h + 0 ≡ h = omega arith in rw e (omega arith)
+count-parts c h (suc k) =
+    let e : h + suc k ≡ suc (h + k) = omega arith in
+    let before = count-parts c h k in
+    rw e (by-test (c (h + k)) (λ p. rw p (omega arith)) (λ p. rw p before))
+
 pub sum-next : (f : ℕ → ℕ) (i : ℕ) → sum (i + 1) f ≡ sum i f + f i
 sum-next f i = rw add-one refl
 

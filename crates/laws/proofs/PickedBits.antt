@@ -2,7 +2,7 @@
 -- Assumes nothing.
 use mathlib.Core.Path.{_≡_, refl, sym, _∙_, ap}
 use mathlib.Core.Bool.{Bool, true, false, cond}
-use Prim.Native.Nat.{ℕ, zero, suc, _+_, _-_, _*_, _^_, _<_, _≤_}
+use Prim.Native.Nat.{ℕ, zero, suc, _+_, _-_, _*_, _^_, _<_}
 use native.Mathlib.Nat.{not-suc-le-zero, pow-suc}
 use native.Mathlib.Omega.{arith}
 use lib.Dec.{eqb}
@@ -12,7 +12,7 @@ use borrow.Author.Tests.{eq-eqb, ne-eqb}
 use Rattle.laws.specs.Tests.{count, sum}
 use Rattle.laws.specs.Bits.{bit}
 use Rattle.laws.proofs.Cases.{by-test, by-less, last-or-below, cond-yes, cond-no}
-use Rattle.laws.proofs.Counts.{count-rise}
+use Rattle.laws.proofs.Counts.{count-parts}
 use Rattle.laws.proofs.Picked.{count-before, count-place}
 use Rattle.laws.proofs.Bits.{bit-lt, bit-past, bit-low, bit-high, same-bits}
 use Rattle.laws.proofs.Powers.{add-bit}
@@ -69,14 +69,6 @@ module _ (c : ℕ → Bool) (z : ℕ) where
       (λ i k.
       let (g, g<, e, at) = count-place c h i k in
       ap (bit (pickedBits c z h)) (sym at) ∙ pickedBits-at h g g< e ∙ same g g< e ∙ ap (bit x) at)
-
--- counted in two parts
-pub count-parts : (c : ℕ → Bool) (h k : ℕ) → count (h + k) c ≡ count h c + count k (λ i. c (h + i))
-count-parts c h zero = let e : h + 0 ≡ h = omega arith in rw e (omega arith)
-count-parts c h (suc k) =
-    let e : h + suc k ≡ suc (h + k) = omega arith in
-    let before = count-parts c h k in
-    rw e (by-test (c (h + k)) (λ p. rw p (omega arith)) (λ p. rw p before))
 
 -- a number put above another of h bits: its picked bits stand above the other's
 pub pickedBits-parts : (c : ℕ → Bool) (u v h k : ℕ) → v < 2 ^ h

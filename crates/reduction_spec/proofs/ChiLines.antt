@@ -1,7 +1,7 @@
 -- The characteristic function line by line: each output has a line of the table, and each output's bit is one that its line allows. So the
 -- characteristic function of a sheet's table is that of the sheet, and that of its final table implies it.
 -- Assumes nothing.
-use mathlib.Core.Path.{_≡_, refl, sym, _∙_, ap, ap₂}
+use mathlib.Core.Path.{_≡_, sym, _∙_, ap}
 use mathlib.Core.Bool.{Bool, true, false, not, _||_, or-true}
 use mathlib.Core.List.{List}
 use Prim.Native.Nat.{ℕ, suc, _+_, _-_, _*_, _^_, _<_, _≤_}

@@ -1,7 +1,7 @@
 -- Classes counted by their least members, where a map takes the numbers that count to those of a numbered equivalence.
 -- Assumes nothing.
 use mathlib.Core.Path.{_≡_, sym, _∙_, ap}
-use mathlib.Core.Bool.{Bool, true, false, not, _&&_}
+use mathlib.Core.Bool.{Bool, true, not, _&&_}
 use mathlib.Core.List.{List}
 use Prim.Native.Nat.{ℕ, _<_}
 use native.Mathlib.Omega.{arith}
@@ -15,7 +15,7 @@ use Rattle.laws.proofs.Find.{least-hit, least-before, least-of}
 use Rattle.laws.proofs.Picked.{count-named}
 use Rattle.laws.proofs.Masks.{not-both}
 use Rattle.reduction_spec.specs.Numbering.{indexIn, firstsOf}
-use Rattle.reduction_spec.proofs.Numbering.{Equivalence, Numbered, numbered, index-same, index-equal, index-first}
+use Rattle.reduction_spec.proofs.Numbering.{Equivalence, numbered, index-same, index-equal, index-first}
 
 -- S relates numbers below P, and R those below D of which some count: they are related as what `to` maps them to
 module _ (S R : ℕ → ℕ → Bool) (equivalence : Equivalence S) (P D : ℕ) (counts : ℕ → Bool) (to : ℕ → ℕ) (into : (u : ℕ) → u < D → to u < P)

@@ -20,7 +20,7 @@ use Rattle.reduction_spec.specs.Cofactors.{columnChi}
 use Rattle.reduction_spec.proofs.ColumnNumbers.{same-entry, entry-same}
 
 -- a value is met by itself, d by 0
-meets-own : (v : ℕ) → v < 3 → meets (eqb v 1) v ≡ true
+pub meets-own : (v : ℕ) → v < 3 → meets (eqb v 1) v ≡ true
 unfolding meets
 meets-own zero h = refl
 meets-own (suc zero) h = refl

@@ -3,6 +3,7 @@ pub mod AcceptedSheet
 pub mod AllMerges
 pub mod ChiLines
 pub mod ClassCount
+pub mod CofactorColumns
 pub mod ColumnChi
 pub mod ColumnNumbers
 pub mod ColumnsBelow

@@ -18,7 +18,6 @@ use Rattle.reduction_spec.specs.Columns.{entry, numberIn, firsts}
 use Rattle.reduction_spec.specs.Cover.{cover}
 use Rattle.reduction_spec.specs.Merge.{holds, product, graph, merge}
 use Rattle.reduction_spec.specs.Cofactors.{columnChi}
-use Rattle.reduction_spec.proofs.ColumnNumbers.{number-below}
 use Rattle.reduction_spec.proofs.CoverPartition.{cover-clique}
 use Rattle.reduction_spec.proofs.OneMerge.{graph-sym, product-keeps, merge-entry}
 
