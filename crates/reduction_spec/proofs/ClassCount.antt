@@ -57,17 +57,17 @@ module _ (S R : ℕ → ℕ → Bool) (equivalence : Equivalence S) (P D : ℕ) 
       let i = numbered S equivalence P in
       let (v, hv, cv, ev) = onto (getD ps c 0) (i .below c h) in
       let nv : number v ≡ c = ap (indexIn S ps) ev ∙ index-first S equivalence P ps i c h in
-      let inC : ℕ → Bool = λ u. counts u && eqb (number u) c in
-      let u = least D inC in
-      let hu : u < D = omega (arith, least-of inC D v hv (and-join cv (eq-eqb (number v) c nv))) in
-      let (cu, nu) = and-split (counts u) (eqb (number u) c) (least-hit inC D hu) in
+      let inClass : ℕ → Bool = λ u. counts u && eqb (number u) c in
+      let u = least D inClass in
+      let hu : u < D = omega (arith, least-of inClass D v hv (and-join cv (eq-eqb (number v) c nv))) in
+      let (cu, nu) = and-split (counts u) (eqb (number u) c) (least-hit inClass D hu) in
       let is : number u ≡ c = eqb-true (number u) c nu in
       let none : (w : ℕ) → w < u → not (R w u) ≡ true =
       λ w l.
       ap not
       (no-test (R w u) (λ t.
       let (cw, s) = and-split (counts w) (S (to w) (to u)) (sym (agree w u (omega arith) hu cu) ∙ t) in
-      not-both (and-join cw (eq-eqb (number w) c (index-equal S equivalence ps (to w) (to u) s ∙ is))) (least-before inC D w l))) in
+      not-both (and-join cw (eq-eqb (number w) c (index-equal S equivalence ps (to w) (to u) s ∙ is))) (least-before inClass D w l))) in
       (u, hu, and-join cu (every-of (λ w. not (R w u)) u none), is)
 
   pub class-count : count D (λ u. counts u && every u (λ v. not (R v u))) ≡ length (firstsOf S P)

@@ -1,4 +1,4 @@
--- The characteristic function of a column: for each values of the inputs some outputs satisfy it, and two columns are the same exactly when
+-- The characteristic function of a column: for all values of the inputs some outputs satisfy it, and two columns are the same exactly when
 -- their characteristic functions are.
 -- Assumes nothing.
 use mathlib.Core.Path.{_≡_, refl, sym, _∙_, ap}
