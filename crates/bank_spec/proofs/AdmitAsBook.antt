@@ -12,17 +12,16 @@ use lib.Seq.{getD-at, getD-set-same, getD-set-other}
 use borrow.Author.Tests.{le-leb, leb-true, leb-false, ltb-false, eqb-true, not-false}
 use Rattle.laws.specs.Tests.{within}
 use Rattle.laws.specs.Lists.{written}
-use Rattle.laws.proofs.Cases.{last-or-below, and-split, and-join, or-split}
+use Rattle.laws.proofs.Cases.{last-or-below, and-split, and-join, or-split, cond-zero}
 use Rattle.laws.proofs.Counts.{sum-ext, sum-at}
 use Rattle.laws.proofs.Filled.{length-written, getD-written, getD-before}
 use Rattle.stored_spec.specs.StoredForm.{wellFormed, cellCount, rowCount}
 use Rattle.stored_spec.specs.Run.{unset}
 use Rattle.stored_spec.proofs.StoredParts.{records-have}
-use Rattle.stored_spec.proofs.ReadWriteCases.{formed-records}
+use Rattle.stored_spec.proofs.ReadWriteCases.{formed-records, row-bytes}
 use Rattle.bank_spec.specs.State.{State, recordsOf, rowsHeld, cleared}
 use Rattle.bank_spec.specs.Calls.{numbered, admitRefusal, withBlock, admitted, admit, outputsOf, scanAt}
 use Rattle.bank_spec.specs.Book.{Block, Book, noBlock, blockAt, cellsIn, rowsIn, bookRefusal, wiped, entered, bookAdmit}
-use Rattle.bank_spec.proofs.FormedCells.{row-bytes}
 use Rattle.laws.proofs.Parts.{part, part-before, part-written, part-replicate, map-at}
 use Rattle.bank_spec.proofs.Related.{recordsIn, total, SameBlock, Related, Match, cells-in, rows-in, cells-held, rows-held, all-formed}
 
@@ -39,20 +38,15 @@ pub record Admits (S m : ℕ) (bs : List Block) (R bytes : List ℕ) : Type 0 wh
   pub room : total rowCount bs (length bs) + rowCount R ≤ m
   pub most : total rowCount bs (length bs) + rowCount R ≤ 32768
 
--- a refusal that is not given
-pub not-refused : (b : Bool) (x y : ℕ) → cond b (suc x) y ≡ 0 → (b ≡ false) × (y ≡ 0)
-not-refused true x y e = absurd (omega arith)
-not-refused false x y e = (refl, e)
-
 admits : (S m : ℕ) (bs : List Block) (R bytes : List ℕ) → bookRefusal S m bs R bytes ≡ 0 → Admits S m bs R bytes
 unfolding bookRefusal
 admits S m bs R bytes e =
     let cells = cellsIn bs + cellCount R in
     let rows = rowsIn bs + rowCount R in
-    let a = not-refused (not (wellFormed R bytes)) 11 _ e in
-    let b = not-refused (leb 8 (length bs)) 12 _ (a .1) in
-    let c = not-refused (ltb S cells) 13 _ (b .1) in
-    let d = not-refused (ltb m rows || ltb 32768 rows) 10 _ (c .1) in
+    let a = cond-zero (not (wellFormed R bytes)) 11 _ e in
+    let b = cond-zero (leb 8 (length bs)) 12 _ (a .1) in
+    let c = cond-zero (ltb S cells) 13 _ (b .1) in
+    let d = cond-zero (ltb m rows || ltb 32768 rows) 10 _ (c .1) in
     let f = or-split (ltb m rows) (ltb 32768 rows) (d .0) in
     record {
       well = not-false (wellFormed R bytes) (a .0);

@@ -3,7 +3,7 @@
 -- Assumes nothing.
 use mathlib.Core.Path.{_≡_, sym, _∙_, ap, ap₂}
 use mathlib.Core.Logic.{_⊎_, inl, inr}
-use mathlib.Core.Bool.{true, false}
+use mathlib.Core.Bool.{false}
 use mathlib.Core.List.{List}
 use Prim.Native.Nat.{ℕ, suc, _+_, _-_, _*_, _^_, _<_, _≤_}
 use native.Mathlib.Omega.{arith}
@@ -17,6 +17,7 @@ use Rattle.sheet_spec.specs.Job.{Job, t, outs, varAt, isInput, inputList, numbe
 use Rattle.sheet_spec.specs.Refusals.{refuse1, refuse2, refuse3, refuse4, refuse5, refuse6, sheetRefusal}
 use Rattle.sheet_spec.specs.Table.{table}
 use Rattle.sheet_spec.proofs.LeastRefusal.{job-accepted}
+use Rattle.sheet_spec.proofs.OrderHeights.{output-height}
 use Rattle.reduction_spec.specs.declared.Node.{Node}
 use Rattle.reduction_spec.specs.Merge.{reduced, refuse7}
 use Rattle.stored_spec.specs.StoredForm.{cellCount}
@@ -24,7 +25,6 @@ use Rattle.stored_spec.specs.Run.{Running, run}
 use Rattle.cutting_spec.specs.Choice.{refuse8}
 use Rattle.cutting_spec.specs.Compile.{Answer, refused, accepted, CompiledAs, made, totals, acceptance, compile}
 use Rattle.cutting_spec.proofs.Demand2.{case, accepts}
-use Rattle.cutting_spec.proofs.OrderHeights.{output-height}
 use Rattle.cutting_spec.proofs.StoredCuts.{cuts-some, length-stored}
 use Rattle.cutting_spec.proofs.Emits.{Emitted, emitted-allowed, compiled-unset}
 use Rattle.cutting_spec.proofs.MadeCascade.{cells-count, made-cuts, made-count, made-emits, made-all}

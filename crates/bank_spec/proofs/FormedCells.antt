@@ -10,7 +10,7 @@ use native.Mathlib.Omega.{arith}
 use lib.Dec.{eqb, leb}
 use lib.ListN.{length, getD}
 use lib.Pow.{split, pow-pos}
-use borrow.Author.Tests.{leb-true, ltb-true, eqb-true, eq-eqb}
+use borrow.Author.Tests.{leb-true, ltb-true, eq-eqb}
 use Rattle.laws.specs.Bits.{bit}
 use Rattle.laws.specs.Tests.{every, within}
 use Rattle.laws.proofs.Bits.{bit-lt, bit-low}
@@ -18,7 +18,7 @@ use Rattle.laws.proofs.Cases.{by-test, cond-both, cond-yes, and-split}
 use Rattle.laws.proofs.Counts.{sum-at}
 use Rattle.sheet_spec.specs.Job.{isInput}
 use Rattle.stored_spec.specs.Cells.{rows}
-use Rattle.stored_spec.specs.StoredForm.{StoredCell, Reading, recordCount, variable, cutByte, railByte, lastByte, withVariable, withCut, reading, storedCells, cellCount, noCell, cellAt, sizeOf, rowsBefore, rowCount, recordFormed, recordsFormed, rowsFormed, wellFormed}
+use Rattle.stored_spec.specs.StoredForm.{StoredCell, Reading, recordCount, variable, cutByte, railByte, lastByte, withVariable, withCut, reading, storedCells, cellCount, noCell, cellAt, sizeOf, rowsBefore, rowCount, recordFormed, recordsFormed}
 use Rattle.stored_spec.specs.Run.{address, rowPlace}
 use Rattle.stored_spec.proofs.StoredParts.{records-have}
 use Rattle.stored_spec.proofs.StoredCells.{cellsTo, endedCell, next-ended, longer}
@@ -162,10 +162,3 @@ same-place R formed k r w v h = ap (λ (a : ℕ). rowsBefore R k + a) (same-addr
 pub kept-inputs : (w : ℕ) → SameInputs (w % 4096) w
 kept-inputs w i l =
     sym (bit-low (w / 2 ^ 12) 12 (w % 2 ^ 12) i (mod-lt w (pow-pos 12)) l) ∙ ap (λ (x : ℕ). bit x i) (split w 12)
-
--- as many rows as the records ask for
-pub row-bytes : (R bytes : List ℕ) → wellFormed R bytes ≡ true → length bytes ≡ rowCount R
-unfolding wellFormed
-row-bytes R bytes e =
-    let a = and-split _ (every (cellCount R) (rowsFormed R bytes)) e .0 in
-    eqb-true (length bytes) (rowCount R) (and-split (recordsFormed R) (eqb (length bytes) (rowCount R)) a .1)

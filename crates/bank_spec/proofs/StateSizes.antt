@@ -10,18 +10,17 @@ use lib.Dec.{eqb, leb, ltb}
 use lib.ListN.{length, getD, length-set, length-take, length-drop}
 use Rattle.laws.specs.Tests.{every, within}
 use Rattle.laws.specs.Lists.{written}
-use Rattle.laws.proofs.Cases.{and-split, cond-each, cond-both}
+use Rattle.laws.proofs.Cases.{and-split, cond-each, cond-both, cond-zero}
 use Rattle.laws.proofs.Lists.{length-tab}
 use Rattle.laws.proofs.Filled.{length-written}
 use Rattle.stored_spec.specs.StoredForm.{wellFormed, cellCount, cellAt}
 use Rattle.stored_spec.specs.Run.{outputsAfter}
 use Rattle.stored_spec.proofs.StoredParts.{records-have}
 use Rattle.stored_spec.proofs.ReadWriteCases.{formed-records}
-use Rattle.cutting_spec.proofs.CellRead.{set-length}
+use Rattle.stored_spec.proofs.Runs.{set-length}
 use Rattle.bank_spec.specs.State.{State, Bank, Scan, recordsOf, cellsHeld, rowsHeld, blockFormed, bankFormed, scanFormed, formed}
 use Rattle.bank_spec.specs.Calls.{After, admitRefusal, withBlock, admitted, admit, wordsKept, latched, latch, nextRow, outputsOf, moved, step}
 use Rattle.bank_spec.specs.CallLists.{Call, admission, latching, stepping, call}
-use Rattle.bank_spec.proofs.AdmitAsBook.{not-refused}
 
 pub record Sized (s : State) : Type 0 where
   pub lengths : length (s .bank .lengths) ≡ 8
@@ -53,8 +52,8 @@ module _ (s : State) (h : Sized s) where
   unfolding admitRefusal admitted withBlock
   admitted-sized R bytes e =
       let ok = formed (s .bank) (s .scan) in
-      let a = not-refused (not (ok && wellFormed R bytes)) 11 _ e in
-      let b = not-refused (leb 8 (s .bank .count)) 12 _ (a .1) in
+      let a = cond-zero (not (ok && wellFormed R bytes)) 11 _ e in
+      let b = cond-zero (leb 8 (s .bank .count)) 12 _ (a .1) in
       let have = records-have R (formed-records R bytes (and-split ok (wellFormed R bytes) (not-false (ok && wellFormed R bytes) (a .0)) .1)) in
       let few = leb-false 8 (s .bank .count) (b .0) in
       let fits : s .bank .count * 80 + length R ≤ length (s .bank .records) = omega (arith, h .records, have .whole, have .few) in

@@ -1,28 +1,27 @@
 -- Demand 3 reaches the functions that firmware calls: `panel-demand3`. Each exported call leaves bytes that hold the state which the definition
 -- leaves, whatever the bytes held before (`exported-holds`), so a list of exported calls is the list of calls of which demand 3 speaks.
 -- Assumes nothing.
-use mathlib.Core.Path.{_≡_, refl, sym, _∙_, ap, ap₂}
-use mathlib.Core.Bool.{Bool, true, false, cond, not}
+use mathlib.Core.Path.{_≡_, refl, _∙_, ap, ap₂}
+use mathlib.Core.Bool.{true, false, not}
 use mathlib.Core.List.{List, [], _∷_}
 use Prim.Native.Nat.{ℕ, _+_, _*_}
 use lib.Dec.{eqb, ltb}
 use lib.ListN.{length, getD}
 use Rattle.laws.specs.Tests.{within}
-use Rattle.laws.specs.Lists.{puts, putsAt}
+use Rattle.laws.specs.Lists.{puts}
 use Rattle.laws.proofs.Cases.{by-test, cond-both}
 use Rattle.laws.proofs.Lists.{length-tab}
 use Rattle.laws.proofs.Puts.{length-puts, length-putsAt}
 use Rattle.bank_spec.specs.declared.Bank.{Bank}
 use Rattle.bank_spec.specs.declared.Scan.{Scan}
 use Rattle.bank_spec.specs.State.{State, formed, rowsHeld, emptyBank, atRest, fresh, limitRefused, stateOf}
-use Rattle.bank_spec.specs.Calls.{Answer, accepted, refused, idle, went, After, numbered, admitRefusal, admitted, admit, latched, latch, nextRow, moved, step}
-use Rattle.bank_spec.specs.Book.{newBook}
-use Rattle.bank_spec.specs.CallLists.{Call, admission, latching, stepping, call, stateAfter, Entry, outputsHeld, trace, bookTrace}
+use Rattle.bank_spec.specs.Calls.{Answer, After, numbered, admitRefusal, admitted, admit, latched, latch, step}
+use Rattle.bank_spec.specs.CallLists.{Call, admission, latching, stepping, call, stateAfter, outputsHeld, trace}
 use Rattle.bank_spec.specs.Demand3.{reworded}
 use Rattle.bank_spec.proofs.StateSizes.{Sized, call-sized}
 use Rattle.bank_spec.proofs.Demand3.{demand3}
 use Rattle.panel_calls.specs.StateBytes.{pairAt, bankIn, scanIn, bankBytes, scanBytes, wordByte, changes, bankLent, scanLent, made, numberOf, newBytes, admitBytes, latchBytes, stepBytes}
-use Rattle.claims.specs.ExportedCalls.{Lent, lent, held, Said, Exported, exported, exportedNew, lentAfter, SaidEntry, exportedTrace, saidOf, inNumbers, number, withWords}
+use Rattle.claims.specs.ExportedCalls.{Lent, lent, held, Said, exported, exportedNew, lentAfter, SaidEntry, exportedTrace, saidOf, inNumbers, number, withWords}
 use Rattle.claims.specs.PanelDemand3.{begun, PanelDemand3}
 use Rattle.claims.proofs.StateBytes.{bank-again, scan-again, words-replaced}
 

@@ -5,27 +5,18 @@ use mathlib.Core.Path.{_≡_, refl, sym, _∙_, ap, ap₂}
 use mathlib.Core.Bool.{Bool, true, false, not}
 use mathlib.Core.List.{List, [], _∷_, _++_}
 use Prim.Native.Nat.{ℕ, _+_, _*_, _/_, _%_, _<_}
-use native.Mathlib.Nat.{div-add-mod'}
 use native.Mathlib.Omega.{arith}
 use lib.Dec.{eqb}
 use lib.ListN.{length, getD, List·getD-append}
 use lib.Seq.{getD-append-add}
 use Rattle.laws.specs.Bits.{flag}
 use Rattle.laws.specs.Lists.{tab, puts, putsAt}
-use Rattle.laws.proofs.Lists.{length-tab, getD-tab, tab-ext, tab-of}
+use Rattle.laws.proofs.Lists.{length-tab, getD-tab, tab-ext, by-elements}
+use Rattle.laws.proofs.Bits.{two-bytes}
 use Rattle.laws.proofs.Puts.{getD-puts, getD-putsAt, getD-beforeAt, getD-unputAt}
 use Rattle.bank_spec.specs.declared.Bank.{Bank}
 use Rattle.bank_spec.specs.declared.Scan.{Scan}
 use Rattle.panel_calls.specs.StateBytes.{pairAt, bankIn, scanIn, bankBytes, wordByte, scanBytes}
-
--- two bytes of a number
-two-bytes : (w : ℕ) → w % 256 + 256 * (w / 256) ≡ w
-two-bytes w = omega (arith, div-add-mod' w 256)
-
--- a list by its elements, where its length is known
-by-elements : (l : List ℕ) (n : ℕ) (f : ℕ → ℕ) → length l ≡ n → ((i : ℕ) → i < n → f i ≡ getD l i 0) → tab n f ≡ l
-by-elements l n f e h =
-    tab-ext f (λ i. getD l i 0) n h ∙ ap (λ (k : ℕ). tab k (λ i. getD l i 0)) (sym e) ∙ tab-of 0 l
 
 module _ (k : Bank) (old : List ℕ) (size : length old ≡ 651) (lengths : length (k .lengths) ≡ 8) (records : length (k .records) ≡ 640) where
   abbrev bytes : List ℕ

@@ -17,7 +17,6 @@ use Rattle.cutting_spec.proofs.Demand2.{Lowest, refuses, accepts, decided}
 use Rattle.bank_spec.specs.Book.{Block}
 use Rattle.bank_spec.specs.Demand3.{CompiledBy}
 use Rattle.bank_spec.proofs.CompiledAs.{as-compiled}
-use Rattle.cutting.specs.declared.Compilation.{Compilation}
 use Rattle.cutting.specs.Outcome.{answered, outcome}
 use Rattle.node_table.specs.Nodes.{nodeOutcome}
 use Rattle.panel_calls.specs.Exported.{totalsOf, compileBytes}

@@ -3,7 +3,6 @@
 -- Assumes nothing.
 use Prim.Native.Nat.{ℕ}
 use mathlib.Core.List.{List, [], _∷_}
-use lib.ListN.{length}
 use Rattle.laws.specs.Lists.{putsAt}
 use Rattle.bank_spec.specs.State.{State}
 use Rattle.bank_spec.specs.Calls.{Answer}

@@ -8,7 +8,7 @@ use Prim.Native.Nat.{ℕ, zero, suc, _+_, _-_, _*_, _/_, _%_, _^_, _<_, _≤_}
 use native.Mathlib.Nat.{mul-assoc}
 use native.Mathlib.Numerals.{add-one}
 use native.Mathlib.Omega.{arith}
-use lib.ListN.{length, getD, set, length-append, length-set}
+use lib.ListN.{length, getD, set, length-append}
 use lib.Seq.{getD-set-same, getD-set-other}
 use lib.Pow.{pow-add, shr-shr, low, mod-pow-add}
 use Rattle.laws.specs.Bits.{bit}
@@ -18,11 +18,11 @@ use Rattle.laws.proofs.Masks.{not-both}
 use Rattle.sheet_spec.specs.Job.{Job, t, ins, outs, varAt, isInput, inputList, numberOf}
 use Rattle.sheet_spec.specs.Refusals.{notEachOnce}
 use Rattle.sheet_spec.proofs.Orders.{ins-rise, outs-rise}
-use Rattle.reduction_spec.proofs.NodeChildren.{ins-input, ins-output, outs-input, outs-output}
+use Rattle.sheet_spec.proofs.OrderHeights.{ins-input, ins-output, outs-input, outs-output, input-bit, output-low, output-one}
 use Rattle.stored_spec.specs.StoredForm.{appended}
 use Rattle.stored_spec.specs.Run.{address, setOutputs}
+use Rattle.stored_spec.proofs.Runs.{set-length}
 use Rattle.cutting_spec.proofs.StoredCuts.{insFrom, outsFrom}
-use Rattle.cutting_spec.proofs.OrderHeights.{input-bit, output-low, output-one}
 
 -- one more input, one more output
 address-snoc : (r : ℕ) (is : List ℕ) (i w : ℕ) → address r (is ++ (i ∷ [])) w ≡ address r is w * 2 + bit w i
@@ -38,11 +38,6 @@ set-snoc s (p ∷ os) o y =
     ap (bit y) (length-append os (o ∷ []) ∙ add-one (length os)) ∙ bit-suc y (length os) in
     set-snoc (set s p (bit y (length (os ++ (o ∷ []))))) os o y
     ∙ ap (λ (b : ℕ). set (setOutputs (set s p b) os (y / 2)) o (bit y 0)) e
-
-pub set-length : (s os : List ℕ) (y : ℕ) → length (setOutputs s os y) ≡ length s
-unfolding setOutputs
-set-length s [] y = refl
-set-length s (o ∷ os) y = set-length (set s o (bit y (length os))) os y ∙ length-set s o (bit y (length os))
 
 module _ (j : Job) (once : notEachOnce (j .n) (j .m) (j .order) ≡ false) (few : j .n ≤ 12) (out : j .m ≤ 8) where
   -- the row address: the rail word, then the inputs between

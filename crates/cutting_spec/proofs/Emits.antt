@@ -28,6 +28,7 @@ use Rattle.sheet_spec.proofs.Words.{number-bit, number-small, word-number}
 use Rattle.sheet_spec.proofs.LinesSettled.{insBelow}
 use Rattle.sheet_spec.proofs.LeastRefusal.{job-accepted}
 use Rattle.sheet_spec.proofs.Tables.{value-below}
+use Rattle.sheet_spec.proofs.OrderHeights.{output-number, output-listed, output-one, output-height}
 use Rattle.reduction_spec.specs.Columns.{numberAt, layers, layer, widthIn}
 use Rattle.reduction_spec.specs.Merge.{reduced}
 use Rattle.reduction_spec.proofs.MergeKeepsOrderRule.{Ruled}
@@ -40,10 +41,10 @@ use Rattle.cutting_spec.specs.Compile.{widthsOf}
 use Rattle.cutting_spec.specs.Rows.{rowOf, cascadeRows}
 use Rattle.stored_spec.specs.StoredForm.{StoredCell, cellAt, rowsBefore, stored}
 use Rattle.stored_spec.specs.Run.{address, rowPlace, setOutputs, outputsAfter, railAfter, unset, Running, ranOne, run}
+use Rattle.stored_spec.proofs.Runs.{set-length}
 use Rattle.cutting_spec.proofs.StoredCuts.{outsFrom, storedBetween, cell-at, rows-at, cuts-fall, cuts-most, cuts-first, cuts-last, cuts-some}
 use Rattle.cutting_spec.proofs.RailCounts.{rails-hold}
-use Rattle.cutting_spec.proofs.OrderHeights.{output-number, output-listed, output-one, output-height}
-use Rattle.cutting_spec.proofs.CellRead.{address-between, set-between, kept-between, set-length}
+use Rattle.cutting_spec.proofs.CellRead.{address-between, set-between, kept-between}
 use Rattle.cutting_spec.proofs.RowRead.{column-below, prefix-small, row-read, row-rail, row-value}
 
 -- what a run holds at the cut b, for the word whose inputs read down the order are x: the rail word is the number of the column of its

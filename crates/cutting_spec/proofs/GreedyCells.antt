@@ -10,65 +10,32 @@ use lib.Dec.{leb, ltb}
 use lib.ListN.{length, getD}
 use lib.Pow.{pow-add}
 use borrow.Author.Tests.{lt-ltb, leb-true, le-leb}
-use Rattle.laws.proofs.Cases.{by-test, by-less, last-or-below, cond-yes, and-split, and-join}
+use Rattle.laws.proofs.Cases.{by-less, last-or-below, cond-yes, and-split, and-join}
 use Rattle.laws.proofs.Find.{least-hit, least-of}
 use Rattle.laws.proofs.Masks.{not-both}
-use Rattle.sheet_spec.specs.Job.{Job, t, ins, outs, varAt, isInput}
+use Rattle.sheet_spec.specs.Job.{Job, t, ins, outs}
 use Rattle.sheet_spec.specs.Refusals.{notEachOnce, sheetRefusal}
 use Rattle.sheet_spec.specs.Table.{table}
 use Rattle.sheet_spec.specs.Accepted.{Accepted}
 use Rattle.sheet_spec.proofs.Orders.{ins-rise, outs-rise}
 use Rattle.sheet_spec.proofs.LeastRefusal.{job-accepted}
-use Rattle.reduction_spec.specs.Columns.{same, firsts, firstsAt, width, layers, widthIn}
+use Rattle.reduction_spec.specs.Columns.{firstsAt, width, layers, widthIn}
 use Rattle.reduction_spec.specs.Merge.{reduced}
-use Rattle.reduction_spec.proofs.ColumnNumbers.{same-sym, first-below, firsts-rise, first-smallest, width-few}
-use Rattle.reduction_spec.proofs.ColumnsBelow.{Names, output-names, input-names}
+use Rattle.reduction_spec.proofs.ColumnNumbers.{width-few}
+use Rattle.reduction_spec.proofs.WidthsBelow.{width-step}
 use Rattle.reduction_spec.proofs.AcceptedSheet.{width-layer}
-use Rattle.reduction_spec.proofs.NodeChildren.{ins-input, ins-output, outs-input, outs-output, ins-below}
 use Rattle.stored_spec.specs.Cells.{fits, allFit}
 use Rattle.stored_spec.specs.Rails.{rails, railsAt}
+use Rattle.stored_spec.proofs.Rails.{rails-least, rails-at}
 use Rattle.cutting_spec.specs.Cuts.{CutList, bottom, next, cellInputs, cellOutputs, cellBetween, cellsOf}
 use Rattle.cutting_spec.specs.Choice.{admissible, chosen, refuse8}
 use Rattle.cutting_spec.specs.Greedy.{greedyNext, greedyFrom, greedy}
 use Rattle.cutting_spec.specs.Compile.{widthsOf, made}
 use Rattle.cutting_spec.proofs.Better.{cellsIn, first-less, better-is}
 use Rattle.cutting_spec.proofs.Demand2.{best-list}
-use Rattle.cutting_spec.proofs.RailCounts.{rails-least, rails-at, rails-hold, width-at}
+use Rattle.cutting_spec.proofs.RailCounts.{rails-hold, width-at}
 use Rattle.cutting_spec.proofs.RowLimit.{cells-next, admissible-fits}
 use Rattle.cutting_spec.proofs.StoredWell.{job-limits}
-
--- columns are at most as many as their names
-module _ (n a b : ℕ) (g : List ℕ) (Q : ℕ) (name : ℕ → ℕ) (names : Names n a b g Q name) where
-  abbrev ps : List ℕ
-  ps = firsts n a b g
-
-  -- what names a smallest prefix is that prefix
-  name-first : (c q : ℕ) → c < length ps → name q ≤ getD ps c 0 → same n a b g (getD ps c 0) (name q) ≡ true → name q ≡ getD ps c 0
-  name-first c q h m e =
-      by-less (name q) (getD ps c 0)
-      (λ l. not-both (same-sym n a b g (name q) (getD ps c 0) ∙ e) (first-smallest n a b g c (name q) h l)) (λ l. omega arith)
-
-  -- the smallest prefix of column c is the name of c, or of a later number
-  named-at : (c : ℕ) → c < length ps → (q : ℕ) × (q < Q) × (name q ≡ getD ps c 0) × (c ≤ q)
-  named-at zero h =
-      let (q, l, m, e) = names .onto (getD ps 0 0) (first-below n a b g 0 h) in
-      (q, l, name-first 0 q h m e, omega arith)
-  named-at (suc c) h =
-      let (q, l, m, e) = names .onto (getD ps (suc c) 0) (first-below n a b g (suc c) h) in
-      let (p, k, i, d) = named-at c (omega arith) in
-      let is = name-first (suc c) q h m e in
-      let up = firsts-rise n a b g c (suc c) (omega arith) h in
-      let later : p < q =
-      by-less p q (λ u. u)
-      (λ u.
-      by-less q p (λ v. let z = names .rise q p v k in omega arith)
-      (λ v. let z : name p ≡ name q = let w : p ≡ q = omega arith in ap name w in omega arith)) in
-      (q, l, is, omega arith)
-
-  names-few : length (firsts n a b g) ≤ Q
-  names-few =
-      by-less Q (length ps)
-      (λ l. let (q, k, i, d) = named-at (length ps - 1) (omega arith) in omega arith) (λ l. l)
 
 -- the longest cell from a cut, and the cuts from there on
 module _ (j : Job) (ws : List ℕ) where
@@ -122,24 +89,7 @@ module _ (j : Job) (once : notEachOnce (j .n) (j .m) (j .order) ≡ false) (few 
   abbrev ws : List ℕ
   ws = widthsOf (layers j f)
 
-  -- across an input the width at most doubles, across an output it does not grow
-  width-step : (h : ℕ) → h < t j → width j f h ≤ width j f (suc h) * 2 ^ (ins j (suc h) - ins j h)
-  unfolding width firstsAt
-  width-step h l =
-      by-test (isInput (varAt j (suc h)))
-      (λ i.
-      let a : ins j (suc h) ≡ suc (ins j h) = omega (arith, ins-input j h i) in
-      let b = outs-input j h i in
-      let d : 2 ^ (ins j (suc h) - ins j h) ≡ 2 = let z : ins j (suc h) - ins j h ≡ 1 = omega arith in ap (λ (k : ℕ). 2 ^ k) z in
-      let most : suc (ins j h) ≤ j .n = omega (arith, ins-below j once few out (suc h) l) in
-      rw (d, a, b) (names-few (j .n) (ins j h) (outs j h) f _ _ (input-names (j .n) (ins j h) (outs j h) f most)))
-      (λ i.
-      let a = ins-output j h i in
-      let b : outs j (suc h) ≡ suc (outs j h) = omega (arith, outs-output j h i) in
-      let d : 2 ^ (ins j (suc h) - ins j h) ≡ 1 = let z : ins j (suc h) - ins j h ≡ 0 = omega arith in ap (λ (k : ℕ). 2 ^ k) z in
-      rw (d, a, b) (omega (arith, names-few (j .n) (ins j h) (outs j h) f _ _ (output-names (j .n) (ins j h) (outs j h) f))))
-
-  -- so rails grow by at most the inputs passed
+  -- the width at most doubles across an input and does not grow across an output (`width-step`), so rails grow by at most the inputs passed
   rails-step : (h : ℕ) → h < t j → railsAt j ws h ≤ railsAt j ws (suc h) + (ins j (suc h) - ins j h)
   rails-step h l =
       let r = railsAt j ws (suc h) in
@@ -147,7 +97,7 @@ module _ (j : Job) (once : notEachOnce (j .n) (j .m) (j .order) ≡ false) (few 
       let is : railsAt j ws h ≡ rails (widthIn ls h) = rails-at j ws h l ∙ ap rails (width-at ls h) in
       let up : widthIn ls (suc h) * 2 ^ d ≤ 2 ^ r * 2 ^ d = mul-le-mul-right (2 ^ d) (rails-hold j once few out f (suc h) l) in
       let same : widthIn ls (suc h) * 2 ^ d ≡ width j f (suc h) * 2 ^ d = ap (λ (w : ℕ). w * 2 ^ d) (width-layer j f (suc h) l) in
-      let most : widthIn ls h ≤ 2 ^ (r + d) = omega (arith, width-layer j f h (omega arith), width-step h l, pow-add 2 r d) in
+      let most : widthIn ls h ≤ 2 ^ (r + d) = omega (arith, width-layer j f h (omega arith), width-step j once few out f h l, pow-add 2 r d) in
       omega (arith, rails-least (widthIn ls h) (r + d) most)
 
   rails-fall : (a b : ℕ) → b ≤ a → a ≤ t j → railsAt j ws b ≤ railsAt j ws a + (ins j a - ins j b)

@@ -8,7 +8,6 @@ pub mod Emits
 mod Examples
 pub mod GreedyCells
 pub mod MadeCascade
-pub mod OrderHeights
 pub mod RailCounts
 pub mod RowLimit
 mod RowRead

@@ -3,7 +3,7 @@
 use mathlib.Core.Path.{_≡_, refl, sym, _∙_, ap}
 use mathlib.Core.Bool.{true, false}
 use mathlib.Core.List.{List, _∷_}
-use Prim.Native.Nat.{ℕ, suc, _+_, _-_, _*_, _^_, _<_, _≤_}
+use Prim.Native.Nat.{ℕ, _+_, _-_, _*_, _^_, _<_, _≤_}
 use native.Mathlib.Nat.{pow-suc}
 use native.Mathlib.Numerals.{add-one}
 use native.Mathlib.Omega.{arith}
@@ -15,12 +15,12 @@ use Rattle.laws.proofs.Cases.{by-test, by-less, cond-yes, cond-both, and-split,
 use Rattle.sheet_spec.specs.Job.{Job, t, ins, outs}
 use Rattle.sheet_spec.specs.Refusals.{notEachOnce}
 use Rattle.sheet_spec.proofs.Orders.{ins-rise, outs-rise, outs-all, ins-outs}
-use Rattle.reduction_spec.proofs.NodeChildren.{ins-below}
+use Rattle.sheet_spec.proofs.OrderHeights.{ins-below}
 use Rattle.stored_spec.specs.Cells.{fits, rows, allFit, rowTotal}
 use Rattle.cutting_spec.specs.Cuts.{CutList, bottom, next, cellInputs, cellOutputs, cellBetween, cellsOf}
 use Rattle.stored_spec.specs.Rails.{railsAt}
+use Rattle.stored_spec.proofs.Rails.{rails-least}
 use Rattle.cutting_spec.specs.Choice.{admissible}
-use Rattle.cutting_spec.proofs.RailCounts.{rails-least}
 
 pow-twice : (i : ℕ) → 2 ^ (i + 1) ≡ 2 * 2 ^ i
 pow-twice i = rw add-one (omega (arith, pow-suc 2 i))

@@ -22,16 +22,15 @@ use Rattle.sheet_spec.specs.Job.{Job, t, ins, outs, varAt, isInput}
 use Rattle.sheet_spec.specs.Refusals.{notEachOnce}
 use Rattle.sheet_spec.proofs.Orders.{ins-rise, outs-rise}
 use Rattle.sheet_spec.proofs.LinesSettled.{insBelow, insBelow-at}
+use Rattle.sheet_spec.proofs.OrderHeights.{outs-output, ins-below, outs-below, output-number}
 use Rattle.reduction_spec.specs.Columns.{entry, same, firstsAt, numberAt, layers, layer, widthIn}
 use Rattle.reduction_spec.proofs.ColumnNumbers.{same-entry, entry-same, number-below, number-same, numberIn-equal}
 use Rattle.reduction_spec.proofs.MergeKeeps.{same-deeper}
 use Rattle.reduction_spec.proofs.MergeKeepsOrderRule.{Ruled}
-use Rattle.reduction_spec.proofs.NodeChildren.{outs-output, ins-below, outs-below}
 use Rattle.stored_spec.specs.Rails.{railsAt}
 use Rattle.cutting_spec.specs.Compile.{widthsOf}
 use Rattle.cutting_spec.specs.Rows.{emitted, rowOf, row}
 use Rattle.cutting_spec.proofs.RailCounts.{layer-at, rails-hold}
-use Rattle.cutting_spec.proofs.OrderHeights.{output-number}
 
 module _ (j : Job) (once : notEachOnce (j .n) (j .m) (j .order) ≡ false) (few : j .n ≤ 12) (out : j .m ≤ 8) (f : List ℕ) where
   abbrev ls : List (List ℕ)

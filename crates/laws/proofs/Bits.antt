@@ -189,3 +189,7 @@ flag-none false = refl
 pub flag-zero : (b : Bool) → flag b ≡ 0 → b ≡ false
 flag-zero true e = absurd (omega arith)
 flag-zero false e = refl
+
+-- a number by its two bytes
+pub two-bytes : (x : ℕ) → x % 256 + 256 * (x / 256) ≡ x
+two-bytes x = omega arith

@@ -5,6 +5,7 @@ use mathlib.Core.Logic.{_⊎_, inl, inr}
 use mathlib.Core.Bool.{Bool, Bool·beq, true, false, cond, _&&_, _||_, false≢true, true≢false, not}
 use Prim.Native.Nat.{ℕ, suc, _<_, _≤_}
 use native.Mathlib.Nat.{eq-or-lt-of-le, le-of-suc-le-suc}
+use native.Mathlib.Omega.{arith}
 use lib.Dec.{ltb, eqb}
 use borrow.Author.Tests.{ltb-true, ltb-false, eqb-true, eqb-false, eq-eqb, ne-eqb}
 
@@ -101,3 +102,8 @@ cond-not false x y = refl
 pub equal-sym : (a b : ℕ) → eqb a b ≡ eqb b a
 equal-sym a b =
     by-equal a b (λ e. eq-eqb a b e ∙ sym (eq-eqb b a (sym e))) (λ e. ne-eqb a b e ∙ sym (ne-eqb b a (λ z. e (sym z))))
+
+-- a choice of 0 is no choice of a number above it
+pub cond-zero : (b : Bool) (x y : ℕ) → cond b (suc x) y ≡ 0 → (b ≡ false) × (y ≡ 0)
+cond-zero true x y e = absurd (omega arith)
+cond-zero false x y e = (refl, e)

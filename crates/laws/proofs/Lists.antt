@@ -88,3 +88,8 @@ pub joined-front : {A : Type 0} (f : ℕ → List A) (n : ℕ) → joined (suc n
 joined-front f zero = sym (append-nil (f 0))
 joined-front f (suc n) =
     ap (λ (x : List _). x ++ f (suc n)) (joined-front f n) ∙ append-assoc (f 0) (joined n (λ i. f (suc i))) (f (suc n))
+
+-- a list by its elements, where its length is known
+pub by-elements : (l : List ℕ) (n : ℕ) (f : ℕ → ℕ) → length l ≡ n → ((i : ℕ) → i < n → f i ≡ getD l i 0) → tab n f ≡ l
+by-elements l n f e h =
+    tab-ext f (λ i. getD l i 0) n h ∙ ap (λ (k : ℕ). tab k (λ i. getD l i 0)) (sym e) ∙ tab-of 0 l

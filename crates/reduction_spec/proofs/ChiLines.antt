@@ -2,34 +2,32 @@
 -- characteristic function of a sheet's table is that of the sheet, and that of its final table implies it.
 -- Assumes nothing.
 use mathlib.Core.Path.{_≡_, sym, _∙_, ap}
-use mathlib.Core.Bool.{Bool, true, false, not, _||_, or-true}
+use mathlib.Core.Bool.{Bool, true, false, _||_, or-true}
 use mathlib.Core.List.{List}
 use Prim.Native.Nat.{ℕ, suc, _+_, _-_, _*_, _^_, _<_, _≤_}
 use native.Mathlib.Omega.{arith}
-use borrow.Author.Tests.{le-ltb, ltb-false}
 use lib.Dec.{eqb}
 use lib.ListN.{getD}
 use Rattle.laws.specs.Tests.{every}
 use Rattle.laws.specs.Bits.{bit, has}
 use Rattle.laws.proofs.Cases.{by-test, by-less, same-test}
 use Rattle.laws.proofs.Tests.{every-of, every-at, every-ext}
-use Rattle.laws.proofs.Picked.{picked-at, every-picked}
+use Rattle.laws.proofs.Picked.{every-picked}
 use Rattle.laws.proofs.Bits.{bit-lt}
-use Rattle.sheet_spec.specs.Job.{Job, t, outs, varAt, isInput, outputByte, inputList, outputsTo, outputList, wordOf}
+use Rattle.sheet_spec.specs.Job.{Job, t, outs, varAt, isInput, outputByte, inputList, outputList, wordOf}
 use Rattle.sheet_spec.specs.Values.{value, allows}
 use Rattle.sheet_spec.specs.Table.{tableAt, table}
 use Rattle.sheet_spec.specs.Characteristic.{meets, chi}
 use Rattle.sheet_spec.specs.Accepted.{Accepted}
-use Rattle.sheet_spec.specs.Refusals.{notEachOnce, placeOf, sheetRefusal}
-use Rattle.sheet_spec.proofs.RecordFields.{order-length, output-once, place-lt, at-place}
-use Rattle.sheet_spec.proofs.Orders.{outputAt, lowered, outputs-start, outputs-more, output-below, outs-all}
+use Rattle.sheet_spec.specs.Refusals.{notEachOnce, sheetRefusal}
+use Rattle.sheet_spec.proofs.Orders.{output-below, outs-all}
 use Rattle.sheet_spec.proofs.Tables.{table-entry, table-below}
 use Rattle.sheet_spec.proofs.LeastRefusal.{job-accepted}
 use Rattle.sheet_spec.proofs.Chi.{meets-allows, chi-allows}
+use Rattle.sheet_spec.proofs.OrderHeights.{output-number, output-listed, output-byte, output-height}
 use Rattle.reduction_spec.specs.Merge.{reduced}
 use Rattle.reduction_spec.specs.Cofactors.{inputsIn, outputsIn, chiOf}
 use Rattle.reduction_spec.proofs.AcceptedSheet.{reduced-refines}
-use Rattle.reduction_spec.proofs.NodeChildren.{line-below}
 use Rattle.reduction_spec.proofs.VariableBits.{CarriesOutputs, inputs-below, outputs-carried}
 
 -- the value of the output at height g + 1 at place x of the table f
@@ -50,26 +48,13 @@ chi-passes j f z =
 -- the outputs by their lines
 module _ (j : Job) (once : notEachOnce (j .n) (j .m) (j .order) ≡ false) (few : j .n ≤ 12) (out : j .m ≤ 8) where
   pub output-line : (g : ℕ) → g < t j → isInput (varAt j (suc g)) ≡ false → outputByte (getD (outputList j) (outs j g) 0) ≡ varAt j (suc g)
-  unfolding outs
-  output-line g l i =
-      let at =
-      picked-at (outputAt (t j) (j .order)) (lowered (t j) (j .order)) (outputsTo (t j) (j .order))
-      (outputs-start (j .n) (j .m) (j .order) once few out) (outputs-more (j .n) (j .m) (j .order) once few out) (t j) g l (ap not i) in
-      omega (arith, at, ltb-false (varAt j (suc g)) 128 i)
+  output-line g l i = omega (arith, output-listed j once few out g l i, output-byte j once few out g l i)
 
   -- each output has a line
   pub outputs-all : (o : ℕ) → o < j .m → (k : ℕ) × (k < j .m) × (getD (outputList j) k 0 ≡ o)
   outputs-all o ho =
-      let one = output-once (j .n) (j .m) (j .order) once o ho in
-      let place = placeOf (j .order) (outputByte o) in
-      let inside = place-lt (j .order) (outputByte o) one in
-      let whole = order-length (j .n) (j .m) (j .order) once in
-      let g = t j - suc place in
-      let back : t j - suc g ≡ place = omega arith in
-      let is : varAt j (suc g) ≡ outputByte o = ap (λ (i : ℕ). getD (j .order) i 0) back ∙ at-place (j .order) (outputByte o) one in
-      let i : isInput (varAt j (suc g)) ≡ false = le-ltb (varAt j (suc g)) 128 (omega arith) in
-      let l : g < t j = omega arith in
-      (outs j g, line-below j once few out g l i, omega (arith, output-line g l i))
+      let (g, l, i, is) = output-height j once few out o ho in
+      (outs j g, output-number j once few out g l i, output-listed j once few out g l i ∙ is)
 
   -- a test of each output is one of each line
   every-line : (p : ℕ → Bool) → every (j .m) (λ k. p (getD (outputList j) k 0)) ≡ every (j .m) p
@@ -134,7 +119,7 @@ module _ (j : Job) (s : List ℕ) (e : sheetRefusal j s ≡ 0) where
       by-test (isInput (varAt j (suc g))) (λ i. ap (λ (b : Bool). b || allows (valueAt j (table j s) x g) (bit bits g)) i)
       (λ i.
       let k = outs j g in
-      let hk : k < j .m = line-below j (accepted .order-whole) (accepted .inputs) (accepted .outputs) g l i in
+      let hk : k < j .m = output-number j (accepted .order-whole) (accepted .inputs) (accepted .outputs) g l i in
       let at = table-entry j s k x hk hx in
       let v = valueAt j (table j s) x g in
       ap (λ (b : Bool). b || allows v (bit bits g)) i

@@ -21,13 +21,14 @@ use Rattle.sheet_spec.specs.Refusals.{notEachOnce}
 use Rattle.sheet_spec.proofs.RecordFields.{order-length}
 use Rattle.sheet_spec.proofs.Orders.{ins-rise, outs-rise}
 use Rattle.sheet_spec.proofs.LinesSettled.{insBelow}
+use Rattle.sheet_spec.proofs.OrderHeights.{ins-input, ins-output, outs-input, outs-output, ins-below, outs-below}
 use Rattle.reduction_spec.specs.Columns.{entry, layers}
 use Rattle.reduction_spec.specs.Diagram.{topValue, nodes}
 use Rattle.reduction_spec.specs.Walk.{lowOf, highOf}
 use Rattle.reduction_spec.specs.Descent.{Reached, reached, descend, descent}
 use Rattle.reduction_spec.proofs.MergeKeeps.{deeper}
 use Rattle.reduction_spec.proofs.MergeKeepsOrderRule.{Ruled}
-use Rattle.reduction_spec.proofs.NodeChildren.{wordsOf, nodeFor, ins-input, ins-output, outs-input, outs-output, node-from, node-positive, ins-below, outs-below, input-child, output-low, output-high, top-value}
+use Rattle.reduction_spec.proofs.NodeChildren.{wordsOf, nodeFor, node-from, node-positive, input-child, output-low, output-high, top-value}
 
 -- the values 1 of the d lowest outputs above height bottom in the column of prefix q, as a number, topmost most significant
 abbrev pub met : Job → List ℕ → ℕ → ℕ → ℕ → ℕ

@@ -23,6 +23,7 @@ use Rattle.sheet_spec.specs.Refusals.{notEachOnce, sheetRefusal}
 use Rattle.sheet_spec.proofs.Tables.{table-below}
 use Rattle.sheet_spec.proofs.LeastRefusal.{job-accepted}
 use Rattle.sheet_spec.proofs.LinesSettled.{insBelow}
+use Rattle.sheet_spec.proofs.OrderHeights.{ins-input, ins-output, ins-below}
 use Rattle.reduction_spec.specs.Columns.{layers}
 use Rattle.reduction_spec.specs.Merge.{reduced}
 use Rattle.reduction_spec.specs.Diagram.{Node, topValue, nodes, nodeWords}
@@ -30,7 +31,7 @@ use Rattle.reduction_spec.specs.Walk.{lowIn, highIn, nodeChild, nodeWalk
 use Rattle.reduction_spec.specs.Cofactors.{inputsIn, outputsIn, chiOf}
 use Rattle.reduction_spec.proofs.MergeKeepsOrderRule.{Ruled}
 use Rattle.reduction_spec.proofs.AcceptedSheet.{some-variable, reduced-below, sheet-ruled, reduced-ruled}
-use Rattle.reduction_spec.proofs.NodeChildren.{nodeFor, ins-input, ins-output, node-bottom, node-from, node-top, ins-below, low-word, high-word, input-child-in, output-low-in, output-high-in, top-value}
+use Rattle.reduction_spec.proofs.NodeChildren.{nodeFor, node-bottom, node-from, node-top, low-word, high-word, input-child-in, output-low-in, output-high-in, top-value}
 use Rattle.reduction_spec.proofs.VariableBits.{Carries, inputs-carried, inputs-below}
 use Rattle.reduction_spec.proofs.ChiLines.{valueAt, passes, chi-passes, chi-sheet}
 

@@ -17,13 +17,14 @@ use Rattle.laws.proofs.Lists.{length-tab, tab-of}
 use Rattle.laws.proofs.Powers.{place-below}
 use Rattle.sheet_spec.specs.Job.{Job, t, ins, outs, varAt, isInput}
 use Rattle.sheet_spec.specs.Refusals.{notEachOnce}
+use Rattle.sheet_spec.proofs.OrderHeights.{ins-input, ins-output, outs-output, ins-below, outs-below}
 use Rattle.reduction_spec.specs.Columns.{entry, numberIn, firsts, firstsAt, numberAt, width, layers, layer, widthIn}
 use Rattle.reduction_spec.specs.Merge.{merged, reduced}
 use Rattle.reduction_spec.specs.Diagram.{Node, node, nodesAbove, nodeOf, inputNode, outputNode, topValue, nodeAt, nodesTo, nodes}
 use Rattle.reduction_spec.proofs.ColumnNumbers.{first-below, number-below}
 use Rattle.reduction_spec.proofs.AllMerges.{width-top, width-bottom, firsts-final, numbers-final, lines-final}
 use Rattle.reduction_spec.proofs.ColumnsBelow.{first-least}
-use Rattle.reduction_spec.proofs.NodeChildren.{ins-below, outs-below, outs-output, ins-input, ins-output, layer-at}
+use Rattle.reduction_spec.proofs.NodeChildren.{layer-at}
 
 -- one column has the smallest prefix 0
 pub one-first : (n a b : ℕ) (g : List ℕ) → length (firsts n a b g) ≡ 1 → firsts n a b g ≡ 0 ∷ []

@@ -28,3 +28,4 @@ pub mod ReductionCases
 pub mod SameLinksSameCover
 pub mod VariableBits
 pub mod WalkSteps
+pub mod WidthsBelow

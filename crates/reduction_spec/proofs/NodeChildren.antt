@@ -18,7 +18,7 @@ use Rattle.laws.proofs.Lists.{length-tab, getD-tab}
 use Rattle.sheet_spec.specs.Job.{Job, t, ins, outs, varAt, isInput}
 use Rattle.sheet_spec.specs.Refusals.{notEachOnce}
 use Rattle.sheet_spec.proofs.LinesSettled.{insBelow, insBelow-at}
-use Rattle.sheet_spec.proofs.Orders.{ins-rise, outs-rise, ins-all, outs-all}
+use Rattle.sheet_spec.proofs.OrderHeights.{ins-input, ins-output, outs-input, outs-output, ins-below, outs-below, output-number}
 use Rattle.reduction_spec.specs.Columns.{entry, same, firsts, numberIn, firstsAt, numberAt, width, layers, layer, widthIn}
 use Rattle.reduction_spec.specs.Diagram.{Node, node, nodesAbove, nodeOf, inputNode, outputNode, topValue, nodeAt, nodesTo, nodes, nodeWords}
 use Rattle.reduction_spec.specs.Walk.{lowIn, highIn, lowOf, highOf}
@@ -121,24 +121,6 @@ module _ (j : Job) (f : List ℕ) (ls : List (List ℕ)) (h c : ℕ) (l : h < t 
       words-height (nodes j f ls) (place - 2) ∙ ap (λ (x : Node). x .height) node-record
       ∙ cond-both (λ (x : Node). x .height ≡ suc h) (isInput (varAt j (suc h))) refl refl
 
--- the order's heights, one by one
-module _ (j : Job) (h : ℕ) where
-  pub ins-input : isInput (varAt j (suc h)) ≡ true → ins j (suc h) ≡ ins j h + 1
-  unfolding ins
-  ins-input e = cond-yes (isInput (varAt j (suc h))) _ _ e
-
-  pub ins-output : isInput (varAt j (suc h)) ≡ false → ins j (suc h) ≡ ins j h
-  unfolding ins
-  ins-output e = cond-no (isInput (varAt j (suc h))) _ _ e
-
-  pub outs-input : isInput (varAt j (suc h)) ≡ true → outs j (suc h) ≡ outs j h
-  unfolding outs
-  outs-input e = cond-no (not (isInput (varAt j (suc h)))) _ _ (ap not e)
-
-  pub outs-output : isInput (varAt j (suc h)) ≡ false → outs j (suc h) ≡ outs j h + 1
-  unfolding outs
-  outs-output e = cond-yes (not (isInput (varAt j (suc h)))) _ _ (ap not e)
-
 -- the words of the diagram of f; the node of the column of prefix p at height h; whether prefixes have the same column there
 abbrev pub wordsOf : Job → List ℕ → List ℕ
 wordsOf j f = nodeWords (nodes j f (layers j f))
@@ -197,16 +179,7 @@ module _ (j : Job) (f : List ℕ) where
 
 -- the children of the node of a prefix, in an order in which each variable stands once
 module _ (j : Job) (once : notEachOnce (j .n) (j .m) (j .order) ≡ false) (few : j .n ≤ 12) (out : j .m ≤ 8) where
-  pub ins-below : (h : ℕ) → h ≤ t j → ins j h ≤ j .n
-  ins-below h l = omega (arith, ins-rise j h (t j) l, ins-all j once few out)
-
-  pub outs-below : (h : ℕ) → h ≤ t j → outs j h ≤ j .m
-  outs-below h l = omega (arith, outs-rise j h (t j) l, outs-all j once few out)
-
   -- the line of the output at height h + 1
-  pub line-below : (h : ℕ) → h < t j → isInput (varAt j (suc h)) ≡ false → outs j h < j .m
-  line-below h l i = omega (arith, outs-output j h i, outs-below (suc h) l)
-
   module _ (f : List ℕ) (h : ℕ) (l : h < t j) where
     -- the same column at height h + 1: the same columns at height h, and the same value of the topmost output
     same-input : (p q y : ℕ) → y < 2 → isInput (varAt j (suc h)) ≡ true → sameAt j f (suc h) p q ≡ true → sameAt j f h (p * 2 + y) (q * 2 + y) ≡ true
@@ -214,8 +187,8 @@ module _ (j : Job) (once : notEachOnce (j .n) (j .m) (j .order) ≡ false) (few 
         let a = ins j (suc h) in
         let one : 2 ^ (a - ins j h) ≡ 2 = let z : a - ins j h ≡ 1 = omega (arith, ins-input j h i) in ap (λ (k : ℕ). 2 ^ k) z in
         rw one at
-        (same-deeper (j .n) (j .m) a (outs j (suc h)) (ins j h) (outs j h) f (omega (arith, ins-input j h i)) (ins-below (suc h) l)
-        (omega (arith, outs-input j h i)) (outs-below (suc h) l) p q y (omega (arith, one)) e)
+        (same-deeper (j .n) (j .m) a (outs j (suc h)) (ins j h) (outs j h) f (omega (arith, ins-input j h i)) (ins-below j once few out (suc h) l)
+        (omega (arith, outs-input j h i)) (outs-below j once few out (suc h) l) p q y (omega (arith, one)) e)
 
     same-line : (p q k x : ℕ) → isInput (varAt j (suc h)) ≡ false → sameAt j f (suc h) p q ≡ true → k < outs j (suc h) → x < 2 ^ ins j h
         → entry (j .n) (ins j h) f p k x ≡ entry (j .n) (ins j h) f q k x
@@ -355,4 +328,4 @@ module _ (j : Job) (once : notEachOnce (j .n) (j .m) (j .order) ≡ false) (few 
     top-value x hx =
         let at : ℕ → ℕ = λ y. getD f (outs j h * 2 ^ j .n + y) 0 in
         ap at (add-zero (x / 2 ^ ins j h * 2 ^ ins j h)) ∙ ap (λ (b : ℕ). at (x / 2 ^ b * 2 ^ b)) (sym below-is)
-        ∙ sym (r (outs j h) x (line-below h l i) hx)
+        ∙ sym (r (outs j h) x (output-number j once few out h l i) hx)

@@ -2,11 +2,11 @@
 -- read from it.
 -- Assumes nothing.
 use mathlib.Core.Path.{_≡_, refl, sym, _∙_, ap}
-use mathlib.Core.Bool.{Bool, true, false, not, cond}
+use mathlib.Core.Bool.{Bool, true, false, cond}
 use Prim.Native.Nat.{ℕ, suc, _+_, _-_, _*_, _^_, _<_, _≤_}
 use native.Mathlib.Nat.{zero-mul}
 use native.Mathlib.Omega.{arith}
-use borrow.Author.Tests.{le-ltb, ltb-false}
+use borrow.Author.Tests.{le-ltb}
 use Rattle.laws.specs.Tests.{sum}
 use Rattle.laws.specs.Bits.{bit}
 use Rattle.laws.proofs.Cases.{by-test, cond-yes, cond-no, cond-both}
@@ -16,7 +16,8 @@ use Rattle.laws.proofs.Powers.{sum-bit}
 use Rattle.laws.proofs.PickedBits.{pickedBits, pickedBits-lt, pickedBits-at}
 use Rattle.sheet_spec.specs.Job.{Job, t, ins, varAt, isInput, outputByte}
 use Rattle.sheet_spec.specs.Refusals.{notEachOnce}
-use Rattle.sheet_spec.proofs.Orders.{ins-all, output-at-once, output-at-below}
+use Rattle.sheet_spec.proofs.Orders.{ins-all}
+use Rattle.sheet_spec.proofs.OrderHeights.{output-low, output-one}
 use Rattle.reduction_spec.specs.Cofactors.{inputsIn, outputsIn}
 
 -- bits holds, at the heights of the inputs, the inputs that are the number x read down the order
@@ -68,22 +69,12 @@ module _ (j : Job) where
         let at : place q ≡ j .m + q = cond-yes (inputUp j q) _ _ b in
         absurd (omega (arith, low k hk a)))
         (λ b.
-        output-at-once (j .n) (j .m) (j .order) once few out k q hk hq (ap not a)
-        (omega (
-          arith,
-          cond-no (inputUp j k) (j .m + k) (varAt j (suc k) - 128) a,
-          cond-no (inputUp j q) (j .m + q) (varAt j (suc q) - 128) b,
-          ltb-false (varAt j (suc k)) 128 a,
-          ltb-false (varAt j (suc q)) 128 b,
-        ))))
+        output-one j once few out k hk a q hq b
+        (omega (arith, cond-no (inputUp j k) (j .m + k) (varAt j (suc k) - 128) a, cond-no (inputUp j q) (j .m + q) (varAt j (suc q) - 128) b))))
       where
         low : (g : ℕ) → g < t j → inputUp j g ≡ false → place g < j .m
         low g l i =
-            omega (
-              arith,
-              cond-no (inputUp j g) (j .m + g) (varAt j (suc g) - 128) i,
-              output-at-below (j .n) (j .m) (j .order) once few out g l (ap not i),
-            )
+            omega (arith, cond-no (inputUp j g) (j .m + g) (varAt j (suc g) - 128) i, output-low j once few out g l i)
 
     pub outputs-carried : (z : ℕ) → CarriesOutputs j (outputsIn j z) z
     unfolding outputsIn

@@ -6,9 +6,9 @@
 -- Assumes nothing.
 use mathlib.Core.Path.{_≡_, refl, sym, _∙_, ap, ap₂}
 use mathlib.Core.Logic.{_⊎_}
-use mathlib.Core.Bool.{Bool, true, false, not, _&&_, and-false}
+use mathlib.Core.Bool.{Bool, true, false, _&&_, and-false}
 use mathlib.Core.List.{List, [], _∷_, map}
-use Prim.Native.Nat.{ℕ, suc, _+_, _*_, _≤_}
+use Prim.Native.Nat.{ℕ, suc, _*_, _≤_}
 use native.Mathlib.Omega.{arith}
 use lib.ListN.{length, length-map}
 use borrow.Author.Tests.{le-ltb}
@@ -17,13 +17,12 @@ use Rattle.laws.specs.Lists.{written}
 use Rattle.laws.proofs.Cases.{either, no-test}
 use Rattle.stored_spec.specs.StoredForm.{wellFormed}
 use Rattle.stored_spec.proofs.StoredParts.{records-have}
-use Rattle.stored_spec.proofs.ReadWriteCases.{formed-records}
+use Rattle.stored_spec.proofs.ReadWriteCases.{formed-records, row-bytes}
 use Rattle.bank_spec.specs.State.{State, fresh, formed, limitRefused}
 use Rattle.bank_spec.specs.Calls.{accepted, refused, numbered, admitRefusal, admit}
 use Rattle.bank_spec.specs.Book.{Book, newBook}
 use Rattle.bank_spec.specs.CallLists.{Call, admission, call, bookCall, stateAfter, Entry, outputsInBook, trace, bookTrace}
 use Rattle.bank_spec.specs.Demand3.{Demand3}
-use Rattle.bank_spec.proofs.FormedCells.{row-bytes}
 use Rattle.bank_spec.proofs.Demand3.{demand3}
 use Rattle.replay.specs.Coded.{Coded, making, calling, codesOf, allFit}
 use Rattle.replay.specs.Entries.{noBank, inBook, bookEntries, onBank, bankAfter, traceBytes}

@@ -13,15 +13,12 @@ use lib.Seq.{take-append-seam, drop-append-seam, drop-drop}
 use Rattle.laws.specs.Lists.{tab, joined}
 use Rattle.laws.specs.Tests.{every}
 use Rattle.laws.proofs.Cases.{cond-yes, and-split, and-join}
+use Rattle.laws.proofs.Bits.{two-bytes}
 use Rattle.laws.proofs.Lists.{tab-ext, tab-of}
 use Rattle.laws.proofs.Tests.{every-at}
 use Rattle.bank_spec.specs.CallLists.{admission, latching, stepping}
 use Rattle.replay.specs.Coded.{Coded, making, calling, pair, saidSize, size, first, callsTo, leftAfter, callsIn, readable, pairOf, allBytes, codeOf, fits, codesOf, allFit}
 use Rattle.replay.proofs.Reading.{calls-more, readable-more}
-
--- the two bytes of a number
-two-bytes : (x : ℕ) → x % 256 + 256 * (x / 256) ≡ x
-two-bytes x = omega arith
 
 -- a call has bytes, and they say how many they are
 code-some : (c : Coded) → 0 < length (codeOf c)

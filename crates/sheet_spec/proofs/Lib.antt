@@ -4,6 +4,7 @@ mod Clashes
 mod Examples
 pub mod LeastRefusal
 pub mod LinesSettled
+pub mod OrderHeights
 pub mod OrderRule
 pub mod Orders
 pub mod RecordFields

@@ -124,24 +124,12 @@ module _ (n m : ℕ) (order : List ℕ) (once : notEachOnce n m order ≡ false)
       let v = among-at (up (n + m) order) 128 m (r .0) (sym (output-is (r .0) (r .1)) ∙ r .2) in
       omega arith
 
-  -- a variable stands at one height
-  height-once : (a c : ℕ) → eachOnce order a c ≡ true → (k q : ℕ) → k < n + m → q < n + m → among (up (n + m) order) a c k ≡ true
-      → up (n + m) order k ≡ up (n + m) order q → k ≡ q
-  height-once a c each k q h l is e =
-      let v = among-at (up (n + m) order) a c k is in
-      count-once (λ i. eqb (up (n + m) order i) (a + v .0)) (n + m) k q (omega (arith, up-once a c each (v .0) (v .1))) h l
-      (eq-eqb (up (n + m) order k) (a + v .0) (v .2)) (eq-eqb (up (n + m) order q) (a + v .0) (sym e ∙ v .2))
-
+  -- an input stands at one height
   input-once : (k q : ℕ) → k < n + m → q < n + m → inputAt (n + m) order k ≡ true → up (n + m) order k ≡ up (n + m) order q → k ≡ q
-  input-once k q h l a = height-once 0 n (order-tests n m order once .1) k q h l (sym (input-is k h) ∙ a)
-
-  pub output-at-once : (k q : ℕ) → k < n + m → q < n + m → outputAt (n + m) order k ≡ true → up (n + m) order k ≡ up (n + m) order q → k ≡ q
-  output-at-once k q h l a = height-once 128 m (order-tests n m order once .2) k q h l (sym (output-is k h) ∙ a)
-
-  pub output-at-below : (k : ℕ) → k < n + m → outputAt (n + m) order k ≡ true → lowered (n + m) order k < m
-  output-at-below k h a =
-      let v = among-at (up (n + m) order) 128 m k (sym (output-is k h) ∙ a) in
-      omega arith
+  input-once k q h l a e =
+      let v = among-at (up (n + m) order) 0 n k (sym (input-is k h) ∙ a) in
+      count-once (λ i. eqb (up (n + m) order i) (0 + v .0)) (n + m) k q (omega (arith, up-once 0 n (order-tests n m order once .1) (v .0) (v .1))) h l
+      (eq-eqb (up (n + m) order k) (0 + v .0) (v .2)) (eq-eqb (up (n + m) order q) (0 + v .0) (sym e ∙ v .2))
 
   pub inputs-distinct : (k q : ℕ) → k < n → q < n
       → getD (inputsTo (n + m) order (n + m)) k 0 ≡ getD (inputsTo (n + m) order (n + m)) q 0 → k ≡ q

@@ -7,7 +7,7 @@ use Prim.Native.Nat.{ℕ, _<_, _≤_}
 use native.Mathlib.Omega.{arith}
 use lib.Dec.{eqb}
 use lib.ListN.{length}
-use borrow.Author.Tests.{lt-ltb, le-ltb}
+use borrow.Author.Tests.{eqb-true, lt-ltb, le-ltb}
 use Rattle.laws.specs.Lists.{written}
 use Rattle.laws.specs.Tests.{every}
 use Rattle.laws.proofs.Cases.{by-test, by-less, and-split}
@@ -62,3 +62,10 @@ module _ (R bytes records rows : List ℕ) where
     where
       no : {C : Type 0} (n : ℕ) → (n ≡ 0 → ⊥) → writeBytes R bytes records rows ≡ writtenAs n records rows → C
       no n z w = absurd (z (sym (ap (λ (x : Written). x .answer) w) ∙ e))
+
+-- as many rows as the records ask for
+pub row-bytes : (R bytes : List ℕ) → wellFormed R bytes ≡ true → length bytes ≡ rowCount R
+unfolding wellFormed
+row-bytes R bytes e =
+    let a = and-split _ (every (cellCount R) (rowsFormed R bytes)) e .0 in
+    eqb-true (length bytes) (rowCount R) (and-split (recordsFormed R) (eqb (length bytes) (rowCount R)) a .1)

@@ -19,6 +19,7 @@ use Rattle.sheet_spec.specs.Accepted.{Accepted}
 use Rattle.sheet_spec.specs.Refusals.{notEachOnce, sheetRefusal}
 use Rattle.sheet_spec.proofs.LeastRefusal.{job-accepted}
 use Rattle.sheet_spec.proofs.LinesSettled.{insBelow}
+use Rattle.sheet_spec.proofs.OrderHeights.{ins-input, ins-output, outs-input, outs-output, ins-below}
 use Rattle.reduction_spec.specs.Columns.{entry, same, layers}
 use Rattle.reduction_spec.specs.Compatible.{opposite, compatible}
 use Rattle.reduction_spec.specs.Diagram.{topValue, nodes, nodeOf}
@@ -27,7 +28,7 @@ use Rattle.reduction_spec.specs.Walk.{lowOf, highOf}
 use Rattle.reduction_spec.specs.Compare.{neitherZero, sameNodes, compatibleNodes, sameColumns, compatibleColumns}
 use Rattle.reduction_spec.proofs.MergeKeepsOrderRule.{Ruled}
 use Rattle.reduction_spec.proofs.AcceptedSheet.{reduced-below, reduced-ruled, nodes-fit}
-use Rattle.reduction_spec.proofs.NodeChildren.{wordsOf, nodeFor, ins-input, ins-output, outs-input, outs-output, ins-below, node-from, node-positive, input-low, input-high, output-low, output-high, top-value}
+use Rattle.reduction_spec.proofs.NodeChildren.{wordsOf, nodeFor, node-from, node-positive, input-low, input-high, output-low, output-high, top-value}
 use Rattle.walks.proofs.Halves.{same-halves, compatible-halves, same-line, compatible-line}
 use Rattle.reduction_spec.proofs.WalkSteps.{joint, same-self, same-left, same-right, same-step, compatible-step}
 

@@ -35,11 +35,11 @@ use Rattle.reduction_spec.proofs.AcceptedSheet.{nodes-fit, width-layer}
 use Rattle.reduction_spec.proofs.ReductionCases.{not-refused}
 use Rattle.reduction_spec.proofs.NodeChildren.{wordsOf, nodes-room}
 use Rattle.stored_spec.specs.Rails.{rails, railsAt}
+use Rattle.stored_spec.proofs.Rails.{rails-enough}
 use Rattle.cutting_spec.specs.Cuts.{cellInputs, cellOutputs}
 use Rattle.cutting_spec.specs.Rows.{row, cellRows}
 use Rattle.cutting.specs.RowWalks.{firstAt, rowFrom, nodeRow, walkedRow}
 use Rattle.cutting.proofs.cell_rows.RowWalks.{first-above, row-walked, row-byte}
-use Rattle.cutting_spec.proofs.RailCounts.{rails-enough}
 
 -- words that are read the same make the same walks
 module _ (ws vs : List ℕ) (same : (i : ℕ) → getD ws i 0 ≡ getD vs i 0) (order : List ℕ) where

@@ -20,6 +20,7 @@ use Rattle.laws.proofs.Puts.{sets-append, length-puts}
 use Rattle.sheet_spec.specs.Job.{Job, t, ins, outs, varAt, isInput}
 use Rattle.sheet_spec.specs.Refusals.{notEachOnce}
 use Rattle.sheet_spec.proofs.Orders.{ins-rise}
+use Rattle.sheet_spec.proofs.OrderHeights.{ins-input, ins-output, outs-input, outs-output, ins-below, outs-below}
 use Rattle.reduction_spec.specs.Columns.{entry, firsts, firstsAt, numberAt, width, layers, widthIn}
 use Rattle.reduction_spec.specs.Merge.{mergeAt, merged, reduced, tooWide}
 use Rattle.reduction_spec.specs.declared.Node.{Node}
@@ -29,7 +30,6 @@ use Rattle.reduction.specs.Lowering.{firstsBelow, cliquesBelow, numberBe
 use Rattle.reduction_spec.proofs.ColumnNumbers.{width-few}
 use Rattle.reduction_spec.proofs.AllMerges.{width-top, width-merge, merged-below}
 use Rattle.reduction.proofs.packed.Planes.{Plane}
-use Rattle.reduction_spec.proofs.NodeChildren.{ins-input, ins-output, outs-input, outs-output, ins-below, outs-below}
 use Rattle.reduction_spec.proofs.AcceptedSheet.{width-layer}
 use Rattle.reduction_spec.proofs.HeightsInOrder.{width-at, topNodes, top-length, firstNode, input-node, output-node}
 use Rattle.reduction.proofs.heights.LoweringArrays.{cliques-fit}

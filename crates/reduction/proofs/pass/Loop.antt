@@ -19,6 +19,7 @@ use Rattle.sheet_spec.specs.Accepted.{Accepted}
 use Rattle.sheet_spec.proofs.LeastRefusal.{job-accepted}
 use Rattle.sheet_spec.proofs.RecordFields.{order-length}
 use Rattle.sheet_spec.proofs.Orders.{ins-outs}
+use Rattle.sheet_spec.proofs.OrderHeights.{ins-input, ins-output, ins-below, outs-below}
 use Rattle.reduction_spec.specs.Columns.{width}
 use Rattle.reduction_spec.specs.Merge.{refuse7}
 use Rattle.reduction_spec.specs.Diagram.{nodeWords}
@@ -26,7 +27,6 @@ use Rattle.reduction.specs.Packed.{size, packedWord, placesWith}
 use Rattle.reduction.specs.Lowering.{firstsBelow, cliquesBelow, productBelow, nodesOver}
 use Rattle.reduction_spec.specs.Reduction.{finalTable, finalNodes}
 use Rattle.reduction_spec.proofs.AcceptedSheet.{nodes-fit}
-use Rattle.reduction_spec.proofs.NodeChildren.{ins-input, ins-output, ins-below, outs-below}
 use Rattle.reduction.proofs.pass.Invariant.{nodes-room, planes-room, line-room, too-wide, next}
 use Rattle.reduction.proofs.pass.Ends.{small, At, start, wide-refused, end-count, end-widths, end-words, end-narrow}
 

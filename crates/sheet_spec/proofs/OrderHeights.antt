@@ -1,5 +1,5 @@
--- The variables of an order in which each stands once, height by height: an input's bit in a word is a bit of the word's number, and an
--- output is listed once.
+-- The variables of an order, height by height: how many inputs and outputs stand below; and where each stands once, an input's bit in a word
+-- is a bit of the word's number, and an output is listed once.
 -- Assumes nothing.
 use mathlib.Core.Path.{_≡_, refl, sym, _∙_, ap}
 use mathlib.Core.Bool.{true, false, not}
@@ -9,15 +9,39 @@ use lib.Dec.{eqb}
 use lib.ListN.{length, getD}
 use borrow.Author.Tests.{eqb-true, eq-eqb, ltb-false, le-ltb}
 use Rattle.laws.specs.Bits.{bit}
-use Rattle.laws.proofs.Cases.{by-test}
+use Rattle.laws.proofs.Cases.{by-test, cond-yes, cond-no}
 use Rattle.laws.proofs.Picked.{count-once, count-before, count-place, picked-at}
 use Rattle.sheet_spec.specs.Job.{Job, t, ins, outs, varAt, isInput, inputList, outputList, inputsTo, outputsTo, numberOf}
 use Rattle.sheet_spec.specs.Refusals.{times, notEachOnce}
 use Rattle.sheet_spec.proofs.RecordFields.{order-length, input-once, output-once}
-use Rattle.sheet_spec.proofs.Orders.{up, inputAt, outputAt, lowered, inputs-start, inputs-more, outputs-start, outputs-more, picked-inputs, picked-outputs, input-below, output-below}
+use Rattle.sheet_spec.proofs.Orders.{up, inputAt, outputAt, lowered, inputs-start, inputs-more, outputs-start, outputs-more, picked-inputs, picked-outputs, input-below, output-below, ins-rise, ins-all, outs-rise, outs-all}
 use Rattle.sheet_spec.proofs.Words.{number-bit}
+
+-- across an input, and across an output
+module _ (j : Job) (h : ℕ) where
+  pub ins-input : isInput (varAt j (suc h)) ≡ true → ins j (suc h) ≡ ins j h + 1
+  unfolding ins
+  ins-input e = cond-yes (isInput (varAt j (suc h))) _ _ e
+
+  pub ins-output : isInput (varAt j (suc h)) ≡ false → ins j (suc h) ≡ ins j h
+  unfolding ins
+  ins-output e = cond-no (isInput (varAt j (suc h))) _ _ e
+
+  pub outs-input : isInput (varAt j (suc h)) ≡ true → outs j (suc h) ≡ outs j h
+  unfolding outs
+  outs-input e = cond-no (not (isInput (varAt j (suc h)))) _ _ (ap not e)
+
+  pub outs-output : isInput (varAt j (suc h)) ≡ false → outs j (suc h) ≡ outs j h + 1
+  unfolding outs
+  outs-output e = cond-yes (not (isInput (varAt j (suc h)))) _ _ (ap not e)
 
 module _ (j : Job) (once : notEachOnce (j .n) (j .m) (j .order) ≡ false) (few : j .n ≤ 12) (out : j .m ≤ 8) where
+  pub ins-below : (h : ℕ) → h ≤ t j → ins j h ≤ j .n
+  ins-below h l = omega (arith, ins-rise j h (t j) l, ins-all j once few out)
+
+  pub outs-below : (h : ℕ) → h ≤ t j → outs j h ≤ j .m
+  outs-below h l = omega (arith, outs-rise j h (t j) l, outs-all j once few out)
+
   -- a variable that stands once stands at one height
   one-height : (v h g : ℕ) → times (j .order) v ≡ 1 → h < t j → g < t j → varAt j (suc h) ≡ v → varAt j (suc g) ≡ v → h ≡ g
   unfolding times
