@@ -11,6 +11,7 @@
 #ifndef CASCADE_H
 #define CASCADE_H
 
+#include <stdbool.h>
 #include <stddef.h>
 #include <stdint.h>
 
@@ -84,6 +85,30 @@ cascade_reduction cascade_reduce(size_t n, size_t m, size_t k, size_t l,
                                  const uint8_t *sheet, size_t sheet_length,
                                  uint16_t widths[CASCADE_WIDTHS],
                                  uint16_t words[CASCADE_NODE_WORDS]);
+
+/* Walks over the diagram. words are CASCADE_NODE_WORDS words as cascade_reduce and cascade_compile write them. A node is
+ * its number: 0 and 1 are the constants, 2 is the first node, and a number over 10,241 has the children 0. */
+
+/* Where a walk from node at height ends: it goes from a node to a child, one height down, until height 0 or a constant.
+ * Bit h - 1 of bits is the value of the variable at height h, input or output; for heights over 32 it is 0. */
+uint16_t cascade_walk(const uint16_t words[CASCADE_NODE_WORDS], uint32_t bits, uint8_t height, uint16_t node);
+
+/* The columns of nodes v and u at one height are the same; are compatible. For a height over 20 both answer false. */
+bool cascade_same_columns(const uint16_t words[CASCADE_NODE_WORDS], uint8_t height, uint16_t v, uint16_t u);
+bool cascade_compatible_columns(const uint16_t words[CASCADE_NODE_WORDS], uint8_t height, uint16_t v, uint16_t u);
+
+/* From node at the cut top down to the cut bottom, or to a constant above it: the node reached, and the outputs met,
+ * topmost most significant, 0 where both values are allowed. inputs holds the values of the count inputs between, topmost
+ * most significant. From a top over 20 the walk stays at node and meets no output. */
+typedef struct {
+    uint16_t node;
+    uint32_t outputs;
+} cascade_reached;
+
+cascade_reached cascade_descent(const uint16_t words[CASCADE_NODE_WORDS],
+                                const uint8_t *order, size_t order_length,
+                                uint8_t top, uint8_t bottom,
+                                uint16_t node, uint16_t inputs, uint8_t count);
 
 /* The bank holds up to 8 blocks (a block is the records and rows of one cascade), and the scan state says how far a scan
  * has come and which outputs are set. Both are bytes that the caller keeps and lends to each call, with the row memory;

@@ -6,6 +6,9 @@ ghost use Rattle.sheet_spec.specs.Job.{job};
 ghost use Rattle.sheet_spec.specs.Refusals.{sheetRefusal};
 ghost use Rattle.sheet_spec.specs.Table.{tabled, fillTable};
 ghost use Rattle.reduction_spec.specs.Reduction.{reducedOf, reduceAs};
+ghost use Rattle.reduction_spec.specs.Walk.{walk};
+ghost use Rattle.reduction_spec.specs.Compare.{sameColumns, compatibleColumns};
+ghost use Rattle.reduction_spec.specs.Descent.{descent};
 ghost use Rattle.panel_calls.specs.Exported.{compiledOf, compileBytes};
 ghost use Rattle.panel_calls.specs.StateBytes.{called, newBytes, admitBytes, latchBytes, stepBytes};
 use bank_spec::MOST_BLOCKS;
@@ -14,6 +17,7 @@ use panel_calls::ScanBytes;
 use panel_calls::StepNumbers;
 use panel_calls::Totals;
 use reduction_spec::NodeWords;
+use reduction_spec::Reached;
 use reduction_spec::Reduction;
 use reduction_spec::Widths;
 use sheet_spec::Table;
@@ -67,6 +71,45 @@ pub extern "C" fn cascade_reduce(
         ≡ reduceAs (job n m k l (now (order .entry))) (now (sheet .entry)) (now (widths .entry)) (now (words .entry)) ⌝ }
 {
     reduction::reduce(n, m, k, l, order, sheet, widths, words)
+}
+
+// Where a walk over the node words from the node at the height ends; bit g of bits is the value of the variable at height g + 1.
+#[no_mangle]
+pub extern "C" fn cascade_walk(words: &NodeWords, bits: u32, height: u8, node: u16) -> u16
+    ensures { λ r. ⌜ r ≡ walk (now (words .entry)) bits height node ⌝ }
+{
+    walks::walk(words, bits, height, node)
+}
+
+// The columns of the nodes v and u at one height are the same; are compatible.
+#[no_mangle]
+pub extern "C" fn cascade_same_columns(words: &NodeWords, height: u8, v: u16, u: u16) -> bool
+    ensures { λ r. ⌜ r ≡ sameColumns (now (words .entry)) height v u ⌝ }
+{
+    walks::same_columns(words, height, v, u)
+}
+
+#[no_mangle]
+pub extern "C" fn cascade_compatible_columns(words: &NodeWords, height: u8, v: u16, u: u16) -> bool
+    ensures { λ r. ⌜ r ≡ compatibleColumns (now (words .entry)) height v u ⌝ }
+{
+    walks::compatible_columns(words, height, v, u)
+}
+
+// From the node at the cut top down to the cut bottom; inputs are the values of the count inputs between, topmost most significant.
+#[no_mangle]
+pub extern "C" fn cascade_descent(
+    words: &NodeWords,
+    order: &[u8],
+    top: u8,
+    bottom: u8,
+    node: u16,
+    inputs: u16,
+    count: u8,
+) -> Reached
+    ensures { λ r. ⌜ r ≡ descent (now (words .entry)) (now (order .entry)) top bottom node inputs count ⌝ }
+{
+    walks::descent(words, order, top, bottom, node, inputs, count)
 }
 
 // The compiler. Where nothing is refused nodes holds three words a node, records the stored records, rows the row tables, each kept past

@@ -31,6 +31,7 @@ pub struct Reduction {
 }
 
 // The end of a walk from one cut to the next: the node reached and the outputs met, topmost most significant.
+#[repr(C)]
 pub struct Reached {
     pub node: u16,
     pub outputs: u32,
