@@ -4,7 +4,8 @@ use Prim.Native.Nat.{ℕ, _+_, _*_}
 use mathlib.Core.Bool.{cond}
 use mathlib.Core.List.{List}
 use lib.Dec.{ltb}
-use lib.ListN.{getD}
+use lib.ListN.{getD, replicate}
+use Rattle.sheet_spec.specs.Limits.{mostNodes}
 use Rattle.sheet_spec.specs.Job.{Job}
 use Rattle.reduction_spec.specs.Diagram.{node}
 use Rattle.reduction_spec.specs.declared.Node.{Node}
@@ -40,3 +41,22 @@ abbrev pub nodeOutcome : List Node → List ℕ → List ℕ → Job → List �
 nodeOutcome nodes records rows j s =
     let c = compile nodes records rows j s in
     nodeOutcomeOf (answered (c .answer)) (c .nodes) (c .records) (c .rows)
+
+-- a node table that has room for every diagram
+unfoldable pub emptyTable : List Node
+emptyTable = replicate mostNodes noNode
+
+-- what the compiler gives over it, the table itself left out
+pub record WholeOutcome : Type 0 where
+  pub answer : Compilation
+  pub records : List ℕ
+  pub rows : List ℕ
+
+abbrev pub wholeOutcomeOf : Compilation → List ℕ → List ℕ → WholeOutcome
+wholeOutcomeOf a records rows = record { answer = a; records = records; rows = rows }
+
+abbrev pub withoutNodes : NodeOutcome → WholeOutcome
+withoutNodes o = wholeOutcomeOf (o .answer) (o .records) (o .rows)
+
+unfoldable pub wholeOutcome : List ℕ → List ℕ → Job → List ℕ → WholeOutcome
+wholeOutcome records rows j s = withoutNodes (nodeOutcome emptyTable records rows j s)

@@ -31,10 +31,9 @@ use types.Tokens.{lft-new, lft-end, lent-back}
 use denote.Exit.{yes}
 use denote.RattleType.{RattleType, owns}
 use denote.Laws.{Is, shows}
-use denote.Memory.{mem, shares, partAt}
+use denote.Memory.{mem, shares}
 use denote.Array.{arrayVal, array-lawful}
-use denote.ArrayMemory.{array-whole}
-use denote.Plain.{uint-vals, uint-tells, uint-makes, uint-lawful, nothing-lawful}
+use denote.Plain.{uint-vals, uint-tells, uint-makes, uint-copy, uint-lawful, nothing-lawful}
 use denote.Ref.{RefT}
 use denote.Slice.{sliceVal, MutSlice, ShrSlice, Room, finally, slice-vals, mut-slice-tells, shr-slice-tells}
 use denote.Lend.{Held, slice-back}
@@ -61,7 +60,8 @@ use Rattle.cutting.proofs.Compilation.Laws as C′
 use Rattle.node_table.specs.Nodes.{nodeIn, wordsFor, nodeOutcomeOf, nodeOutcome}
 use Rattle.node_table.proofs.WordsAndNodes.{fill-room, table-outcome}
 use Rattle.node_table.proofs.FreedLocals.{frees-all}
-use Rattle.node_table.proofs.LocalWords.{AR, arTy, size-is, zeros, zeros-long, zval, big-lit, zeros-own, zeros-lent, words-lent, in-cells, out-room}
+use Rattle.node_table.proofs.LocalArrays.{big-lit, copies-own, lent-whole, shared-whole, in-cells, out-room}
+use Rattle.node_table.proofs.LocalWords.{AR, arTy, size, size-is, zeros, zeros-long, zval}
 use Rattle.node_table.proofs.words.compile_words as compile-words
 use Rattle.node_table.proofs.words.compile_words.Symbol as compile-words-def
 use Rattle.node_table.proofs.words.compile_words.Symbol.{name as #compile-words}
@@ -261,7 +261,7 @@ module _ {M : Type 1} (𝓤 : URA M) (H : Heap 𝓤) (A : Atoms 𝓤) (W : Given
         pass1 ! (init ! 36 refl (tt, (tt, (record { fits = g .order-room .0 }, tt)))) $ pass1 ! (init ! 34 refl (tt, (tt, (record { fits = g .sheet-room .0 }, tt)))) $ pass1 ! (init ! 32 refl (tt, (tt, (record { fits = g .nodes-room .0 }, tt)))) $ pass1 ! (init ! 30 refl (tt, (tt, (record { fits = g .records-room .0 }, tt)))) $ pass1 ! (init ! 28 refl (tt, (tt, (record { fits = g .rows-room .0 }, tt)))) $ pass0 ! $
         move ! (52 ∷ 51 ∷ 50 ∷ 49 ∷ 48 ∷ 57 ∷ 56 ∷ 55 ∷ 54 ∷ 53 ∷ 46 ∷ 44 ∷ 42 ∷ 40 ∷ 38 ∷ 36 ∷ 34 ∷ 32 ∷ 30 ∷ 28 ∷ 26 ∷ 24 ∷ 22 ∷ 20 ∷ 18 ∷ 16 ∷ 14 ∷ 12 ∷ 10 ∷ 8 ∷ 6 ∷ 4 ∷ 2 ∷ 0 ∷ []) $
         -- the array of zeros
-        owned ! u16 (Is u16) (uint-makes 𝓤 H A W w16) 0 _ (refl, lit< tt) $ use1 W (‵ (AR .own zeros (zval ∷ []))) (zeros-own 𝓤 H A W) $
+        owned ! u16 (Is u16) (uint-makes 𝓤 H A W w16) 0 _ (refl, lit< tt) $ use1 W (‵ (AR .own zeros (zval ∷ []))) (copies-own u16 size 30720 size-is 𝓤 H A W (uint-copy 𝓤 H A W w16) 0 (vint w16 0)) $
         peeks ! AR (Is AR) (shows 𝓤 H A AR) zeros (zval ∷ []) (λ is-zeros.
         assigns ! (rep ! 30720 (lit ! tt)) (from ! (stop !)) (init ! 21 refl (subst (λ (i : ℕ). Holds (hasTy arTy (arrayVal (replicate i (vint w16 0)))) × WT (arrayVal (replicate i (vint w16 0)))) size-is (array-lawful 𝓤 H A W u16 (uint-lawful 𝓤 H A W w16) 30720 .typed zeros _ is-zeros .0))) $
         rewrite ! 21 (λ (i : ℕ). ‵ (fat fullShare arTy l₁₀ 0 (arrayVal (replicate i (vint w16 0))))) (sym size-is) refl $
@@ -274,9 +274,9 @@ module _ {M : Type 1} (𝓤 : URA M) (H : Heap 𝓤) (A : Atoms 𝓤) (W : Given
         assigns ! (addr ! (from ! (fld ! refl (hop ! (look-in ! 20 (sub ! 0 refl (whole !))) (stop !))))) (from ! (stop !)) (init ! 28 refl (tt, tt)) $
         assigns ! (agg ! (and-then ! (load ! (from ! (stop !)) (look ! 28 refl)) (and-then ! (load ! (from ! (fld ! refl (stop !))) (look-in ! 20 (sub ! 1 refl (whole !)))) (no-more !)))) (from ! (stop !)) (init ! 29 refl (tt, (tt, (record { fits = g .rows-room .0 }, tt)))) $
         -- `compile_words`
-        move ! (21 ∷ 0 ∷ []) $ use2 W (‵ (cells (mem u16) zeros l₁₀ 0)) (in-cells 𝓤 H A W l₁₀ zeros zval) $
+        move ! (21 ∷ 0 ∷ []) $ use2 W (‵ (cells (mem u16) zeros l₁₀ 0)) (in-cells u16 30720 𝓤 H A W l₁₀ zeros tt zval) $
         lft-new ! tt (λ ν. move ! (1 ∷ []) $
-        use1 W (later (some (λ (δ : GName). ‵ (MutSlice (named 2) (ν ∷ []) u16 .own (xw l₁₀ δ zeros) (sw l₁₀ ∷ [])) ⊛ ‵ (flent (ν ∷ []) (Held u16 30720 l₁₀ 0 δ))))) (zeros-lent 𝓤 H A W (named 2) l₁₀ ν) $ await ! tt $ pick ! (λ δ. split ! $
+        use1 W (later (some (λ (δ : GName). ‵ (MutSlice (named 2) (ν ∷ []) u16 .own (xw l₁₀ δ zeros) (sw l₁₀ ∷ [])) ⊛ ‵ (flent (ν ∷ []) (Held u16 30720 l₁₀ 0 δ))))) (lent-whole u16 30720 (lit< tt, lit< tt) 𝓤 H A W (named 2) l₁₀ ν zeros zeros-long) $ await ! tt $ pick ! (λ δ. split ! $
         move ! (8 ∷ 9 ∷ 2 ∷ 11 ∷ 12 ∷ 3 ∷ 4 ∷ 0 ∷ 6 ∷ 7 ∷ []) $ group ! 10 $ use1 W (raw (CompileWords 𝓤 H A at-mem run .pre (to-words ν l₁₀ δ))) (words-ready g ν l₁₀ δ) $
         calls-at ! fm (CompileWords 𝓤 H A at-mem run) words-known (to-words ν l₁₀ δ) (and-then ! (load ! (from ! (stop !)) (look ! 5 refl)) (and-then ! (load ! (from ! (stop !)) (look ! 6 refl)) (and-then ! (load ! (from ! (stop !)) (look ! 7 refl)) (and-then ! (load ! (from ! (stop !)) (look ! 8 refl)) (and-then ! (load ! (from ! (stop !)) (look ! 9 refl)) (and-then ! (load ! (from ! (stop !)) (look ! 10 refl)) (and-then ! (load ! (from ! (stop !)) (look ! 15 refl)) (and-then ! (load ! (from ! (stop !)) (look ! 17 refl)) (and-then ! (load ! (from ! (stop !)) (look ! 19 refl)) (and-then ! (load ! (from ! (stop !)) (look ! 21 refl)) (no-more !))))))))))) (λ w.
         use1 W (later (some (λ (r : Compilation). ((t₀ ⊛ t₁ ⊛ ‵ (flft (ν ∷ []) fullShare) ⊛ t₃ ⊛ t₄ ⊛ ‵ ftrue) ⊛ ‵ (CR .own r (w ∷ []))) ⊛ raw (ensured 𝓤 H A compile-words.ended (compile-words.clauses 𝓤 H A at-mem run) (κsw ν) (for-words ν l₁₀ δ) tt r)))) (id⊢ 𝓤 _) $ await ! tt $ pick ! (λ r.
@@ -300,7 +300,7 @@ module _ {M : Type 1} (𝓤 : URA M) (H : Heap 𝓤) (A : Atoms 𝓤) (W : Given
         assigns ! (agg ! (and-then ! (load ! (from ! (stop !)) (look ! 31 refl)) (and-then ! (load ! (from ! (fld ! refl (stop !))) (look-in ! 17 (sub ! 1 refl (whole !)))) (no-more !)))) (from ! (stop !)) (init ! 32 refl (tt, (tt, (record { fits = g .nodes-room .0 }, tt)))) $
         assigns ! (un ! (load ! (from ! (fld ! refl (stop !))) (look-in ! 20 (sub ! 1 refl (whole !)))) (record { fits = (count-fits r (zs .1 .1 .1 .1 .1 .1 .1 .0) (zs .1 .1 .1 .1 .1 .1 .1 .1 .0) (zs .1 .1 .1 .1 .1 .1 .1 .1 .1 .0) known) })) (from ! (stop !)) (store ! 21 refl (tt, record { fits = (count-fits r (zs .1 .1 .1 .1 .1 .1 .1 .0) (zs .1 .1 .1 .1 .1 .1 .1 .1 .0) (zs .1 .1 .1 .1 .1 .1 .1 .1 .1 .0) known) })) $
         lft-new ! tt (λ ν₁. move ! (1 ∷ []) $
-        use1 W (later (some (λ (δ₁ : GName). ‵ (ShrSlice (named 0) (ν₁ ∷ []) u16 .own (xw l₁₀ δ₁ (zs .1 .1 .1 .1 .1 .1 .1 .0)) (sw l₁₀ ∷ [])) ⊛ ‵ (flent (ν₁ ∷ []) (arr-parts (shares u16) 30720 .part fullShare (zs .1 .1 .1 .1 .1 .1 .1 .0) l₁₀ 0))))) (words-lent 𝓤 H A W (named 0) l₁₀ ν₁ (zs .1 .1 .1 .1 .1 .1 .1 .0) (len-w ∙ zeros-long)) $ await ! tt $ pick ! (λ δ₁. split ! $
+        use1 W (later (some (λ (δ₁ : GName). ‵ (ShrSlice (named 0) (ν₁ ∷ []) u16 .own (xw l₁₀ δ₁ (zs .1 .1 .1 .1 .1 .1 .1 .0)) (sw l₁₀ ∷ [])) ⊛ ‵ (flent (ν₁ ∷ []) (arr-parts (shares u16) 30720 .part fullShare (zs .1 .1 .1 .1 .1 .1 .1 .0) l₁₀ 0))))) (shared-whole u16 30720 (lit< tt, lit< tt) 𝓤 H A W (named 0) l₁₀ ν₁ (zs .1 .1 .1 .1 .1 .1 .1 .0) (len-w ∙ zeros-long)) $ await ! tt $ pick ! (λ δ₁. split ! $
         move ! (2 ∷ 11 ∷ 0 ∷ 10 ∷ []) $ group ! 4 $ use1 W (raw (Fill 𝓤 H A at-mem run .pre (to-fill ν₁ l₁₀ δ₁ (zs .1 .1 .1 .1 .1 .1 .1 .0) (r .nodes)))) (fill-ready ν₁ l₁₀ δ₁ (zs .1 .1 .1 .1 .1 .1 .1 .0) (r .nodes) (count-fits r (zs .1 .1 .1 .1 .1 .1 .1 .0) (zs .1 .1 .1 .1 .1 .1 .1 .1 .0) (zs .1 .1 .1 .1 .1 .1 .1 .1 .1 .0) known) (fill-fits r (zs .1 .1 .1 .1 .1 .1 .1 .0) (zs .1 .1 .1 .1 .1 .1 .1 .1 .0) (zs .1 .1 .1 .1 .1 .1 .1 .1 .1 .0) known (len-w ∙ zeros-long))) $
         calls-at ! fm (Fill 𝓤 H A at-mem run) fill-known (to-fill ν₁ l₁₀ δ₁ (zs .1 .1 .1 .1 .1 .1 .1 .0) (r .nodes)) (and-then ! (load ! (from ! (stop !)) (look ! 29 refl)) (and-then ! (load ! (from ! (stop !)) (look ! 31 refl)) (and-then ! (load ! (from ! (stop !)) (look ! 20 refl)) (no-more !)))) (λ w′.
         use1 W (later (some (λ (u : Unit {0}). ((‵ (flft (ν₁ ∷ []) fullShare) ⊛ t₂ ⊛ ‵ ftrue) ⊛ ‵ (unit .own u (w′ ∷ []))) ⊛ raw (ensured 𝓤 H A fill.ended (fill.clauses 𝓤 H A at-mem run) (κsf ν₁) (for-fill ν₁ l₁₀ δ₁ (zs .1 .1 .1 .1 .1 .1 .1 .0) (r .nodes)) tt u)))) (id⊢ 𝓤 _) $ await ! tt $ pick ! (λ u.
@@ -313,7 +313,7 @@ module _ {M : Type 1} (𝓤 : URA M) (H : Heap 𝓤) (A : Atoms 𝓤) (W : Given
         land ! (from ! (stop !)) (init ! 28 refl (nothing-lawful 𝓤 H A W .typed u _ is′ .0)) $
         -- the array is the local's again
         split ! $ lft-end ! tt $ move ! (0 ∷ 3 ∷ []) $ lent-back ! tt $
-        use1 W (‵ (partAt AR fullShare (zs .1 .1 .1 .1 .1 .1 .1 .0) l₁₀ 0)) (array-whole 𝓤 H A W u16 fullShare 30720 (zs .1 .1 .1 .1 .1 .1 .1 .0) l₁₀ 0) $ use1 W (‵ (froom arTy l₁₀ 0)) (out-room 𝓤 H A W l₁₀ (zs .1 .1 .1 .1 .1 .1 .1 .0)) $
+        use1 W (‵ (froom arTy l₁₀ 0)) (out-room u16 30720 𝓤 H A W l₁₀ (zs .1 .1 .1 .1 .1 .1 .1 .0) (uint-vals w16) (uint-tells w16)) $
         move ! (1 ∷ []) $ split ! $
         keep ! (11 ∷ 57 ∷ 12 ∷ 56 ∷ 13 ∷ 55 ∷ 14 ∷ 54 ∷ 15 ∷ 53 ∷ 16 ∷ 52 ∷ 17 ∷ 51 ∷ 18 ∷ 50 ∷ 19 ∷ 49 ∷ 20 ∷ 48 ∷ 2 ∷ 47 ∷ 21 ∷ 46 ∷ 22 ∷ 45 ∷ 23 ∷ 44 ∷ 24 ∷ 43 ∷ 25 ∷ 42 ∷ 26 ∷ 41 ∷ 27 ∷ 40 ∷ 28 ∷ 39 ∷ 29 ∷ 38 ∷ 30 ∷ 37 ∷ 31 ∷ 36 ∷ 32 ∷ 35 ∷ 33 ∷ 34 ∷ 7 ∷ 6 ∷ 0 ∷ 5 ∷ 4 ∷ 3 ∷ 10 ∷ 9 ∷ 8 ∷ []) $
         assigns ! (of-opd ! (load ! (from ! (stop !)) (look ! 22 refl))) (from ! (stop !)) (init ! 0 refl (LL.lawful C.the-type C′.the-laws 𝓤 H A W .typed r _ (subst (Is CR r) (LL.tells C.the-type C′.the-laws r (w ∷ []) is) is) .0)) $
