@@ -7,16 +7,16 @@ use native.Mathlib.Omega.{arith}
 use lib.ListN.{length, take, drop}
 use Rattle.laws.proofs.Parts.{part-ends, rest-ends}
 use Rattle.sheet_spec.specs.Job.{job}
-use Rattle.cutting.specs.Outcome.{Outcome, outcome}
+use Rattle.node_table.specs.Nodes.{WholeOutcome, wholeOutcome}
 use Rattle.listing.specs.Split.{number, variables, orderOf, sheetOf, jobOf}
 
 -- what the compiler gives of them
-pub outcome-same : (input nodes records rows : List ℕ) (n m k l from to : ℕ) (o : Outcome)
+pub outcome-same : (input records rows : List ℕ) (n m k l from to : ℕ) (o : WholeOutcome)
     → n ≡ number input 0 → m ≡ number input 1 → k ≡ number input 2 → l ≡ number input 3
     → from ≡ min 4 (length input) → to ≡ min (4 + n + m) (length input)
-    → o ≡ outcome nodes records rows (job n m k l (take (to - from) (drop from input))) (take (length input - to) (drop to input))
-    → o ≡ outcome nodes records rows (jobOf input) (sheetOf input)
+    → o ≡ wholeOutcome records rows (job n m k l (take (to - from) (drop from input))) (take (length input - to) (drop to input))
+    → o ≡ wholeOutcome records rows (jobOf input) (sheetOf input)
 unfolding orderOf sheetOf
-outcome-same input nodes records rows n m k l from to o en em ek el f t e =
+outcome-same input records rows n m k l from to o en em ek el f t e =
     let last : to ≡ min (4 + variables input) (length input) = omega (arith, en, em, t) in
     e ∙ rw (en, em, ek, el, part-ends 4 (variables input) from to input f last, rest-ends (4 + variables input) to input last)

@@ -12,10 +12,9 @@ use lib.Seq.{length-take-le, take-all, take-append-le, drop-append-le, getD-take
 use Rattle.laws.proofs.Cases.{by-less, cond-yes, cond-no, cond-both}
 use Rattle.sheet_spec.specs.Job.{Job}
 use Rattle.sheet_spec.specs.Refusals.{refuse1, refuse2, refuse3, sheetRefusal}
-use Rattle.reduction_spec.specs.Reduction.{reductionRefusal}
-use Rattle.cutting_spec.specs.Compile.{refused}
-use Rattle.cutting.specs.Outcome.{answered, outcomeOf, outcome}
-use Rattle.cutting.proofs.Outcomes.{outcome-early}
+use Rattle.cutting_spec.specs.Compile.{Compiled, refused, refusal as refusalAs, compileAs, compile}
+use Rattle.cutting.specs.Outcome.{answered}
+use Rattle.node_table.specs.Nodes.{emptyTable, WholeOutcome, wholeOutcomeOf, wholeOutcome}
 use Rattle.listing.specs.Split.{number, variables, orderOf, sheetOf, jobOf}
 
 -- a sheet of more than 2,048 bytes is refused, whatever it holds
@@ -36,16 +35,13 @@ module _ (j : Job) where
   unfolding sheetRefusal
   by-sheet s h = ap (λ (n : ℕ). cond (refuse1 j) 1 (cond (refuse2 j) 2 n)) (cond-yes (refuse3 s) 3 _ (too-long s h))
 
-  refused-so : (s : List ℕ) → 2048 < length s → reductionRefusal j s ≡ refusal
-  unfolding reductionRefusal
-  refused-so s h =
-      cond-no (eqb (sheetRefusal j s) 0) _ (sheetRefusal j s) (ne-eqb (sheetRefusal j s) 0 (λ z. some (sym (by-sheet s h) ∙ z))) ∙ by-sheet s h
-
-  long-sheet : (nodes records rows s : List ℕ) → 2048 < length s
-      → outcomeOf (answered (refused refusal)) nodes records rows ≡ outcome nodes records rows j s
-  long-sheet nodes records rows s h =
-      ap (λ (n : ℕ). outcomeOf (answered (refused n)) nodes records rows) (sym (refused-so s h))
-      ∙ outcome-early nodes records rows j s (λ z. some (sym (refused-so s h) ∙ z))
+  long-sheet : (records rows s : List ℕ) → 2048 < length s → wholeOutcomeOf (answered (refused refusal)) records rows ≡ wholeOutcome records rows j s
+  unfolding wholeOutcome compile compileAs refusalAs
+  long-sheet records rows s h =
+      let kept : ℕ → Compiled = refusalAs (λ xs. xs) emptyTable records rows in
+      let shown : Compiled → WholeOutcome = λ c. wholeOutcomeOf (answered (c .answer)) (c .records) (c .rows) in
+      ap (λ (n : ℕ). shown (kept n)) (sym (by-sheet s h))
+      ∙ ap shown (sym (cond-no (eqb (sheetRefusal j s) 0) _ (kept (sheetRefusal j s)) (ne-eqb (sheetRefusal j s) 0 (λ z. some (sym (by-sheet s h) ∙ z)))))
 
 -- a part that ends in the first n elements is a part of them
 part-within : (a k n : ℕ) (l : List ℕ) → a + k ≤ n → n ≤ length l → take k (drop a (take n l)) ≡ take k (drop a l)
@@ -93,12 +89,12 @@ module _ (input : List ℕ) (bytes : (i : ℕ) → getD input i 0 < 256) (long :
   first-long =
       omega (arith, few, variables-kept, length-take-le 4096 input (omega arith), length-drop (4 + variables first) first)
 
-pub long-input : (nodes records rows input : List ℕ) → ((i : ℕ) → getD input i 0 < 256)
-    → outcome nodes records rows (jobOf (take 4096 input)) (sheetOf (take 4096 input)) ≡ outcome nodes records rows (jobOf input) (sheetOf input)
-long-input nodes records rows input bytes =
+pub long-input : (records rows input : List ℕ) → ((i : ℕ) → getD input i 0 < 256)
+    → wholeOutcome records rows (jobOf (take 4096 input)) (sheetOf (take 4096 input)) ≡ wholeOutcome records rows (jobOf input) (sheetOf input)
+long-input records rows input bytes =
     by-less 4096 (length input)
     (λ long.
-    ap (λ (j : Job). outcome nodes records rows j (sheetOf (take 4096 input))) (job-kept input bytes long)
-    ∙ sym (long-sheet (jobOf input) nodes records rows (sheetOf (take 4096 input)) (first-long input bytes long))
-    ∙ long-sheet (jobOf input) nodes records rows (sheetOf input) (sheet-long input bytes long))
-    (λ h. ap (λ (x : List ℕ). outcome nodes records rows (jobOf x) (sheetOf x)) (take-all 4096 input h))
+    ap (λ (j : Job). wholeOutcome records rows j (sheetOf (take 4096 input))) (job-kept input bytes long)
+    ∙ sym (long-sheet (jobOf input) records rows (sheetOf (take 4096 input)) (first-long input bytes long))
+    ∙ long-sheet (jobOf input) records rows (sheetOf input) (sheet-long input bytes long))
+    (λ h. ap (λ (x : List ℕ). wholeOutcome records rows (jobOf x) (sheetOf x)) (take-all 4096 input h))

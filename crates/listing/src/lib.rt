@@ -2,14 +2,12 @@
 ghost use mathlib.Core.Path.{_≡_};
 ghost use Prim.Native.Nat.{_≤_, _<_, min};
 ghost use lib.ListN.{length};
-ghost use Rattle.cutting.specs.Outcome.{outcomeOf, outcome};
+ghost use Rattle.node_table.specs.Nodes.{wholeOutcomeOf, wholeOutcome};
 ghost use Rattle.listing.specs.Split.{number, jobOf, sheetOf};
 use cutting::Compilation;
 use libc::STDOUT_FILENO;
 use numbers::least;
 use numbers::wide;
-use reduction_spec::NODE_WORDS;
-use reduction_spec::NodeWords;
 use reduction_spec::Widths;
 use sheet_spec::MOST_VARIABLES;
 use stored_spec::MOST_RECORD_BYTES;
@@ -25,16 +23,11 @@ fn number(input: &[u8], i: usize) -> usize
     0
 }
 
-// The compiler on the job and the sheet of the input.
-pub fn compile_input(
-    input: &[u8],
-    nodes: &mut [u16],
-    records: &mut [u8],
-    rows: &mut [u8],
-) -> Compilation
+// The compiler on the job and the sheet of the input, over node records.
+pub fn compile_input(input: &[u8], records: &mut [u8], rows: &mut [u8]) -> Compilation
     ensures { λ r.
-        ⌜ outcomeOf r (now (nodes .exit)) (now (records .exit)) (now (rows .exit))
-        ≡ outcome (now (nodes .entry)) (now (records .entry)) (now (rows .entry)) (jobOf (now (input .entry))) (sheetOf (now (input .entry))) ⌝ }
+        ⌜ wholeOutcomeOf r (now (records .exit)) (now (rows .exit))
+        ≡ wholeOutcome (now (records .entry)) (now (rows .entry)) (jobOf (now (input .entry))) (sheetOf (now (input .entry))) ⌝ }
 {
     let n = number(input, 0);
     let m = number(input, 1);
@@ -42,17 +35,7 @@ pub fn compile_input(
     let l = number(input, 3);
     let from = least(4, input.len());
     let to = least(4 + n + m, input.len());
-    cutting::compile(
-        n,
-        m,
-        k,
-        l,
-        &input[from..to],
-        &input[to..],
-        nodes,
-        records,
-        rows,
-    )
+    node_table::compile_whole(n, m, k, l, &input[from..to], &input[to..], records, rows)
 }
 
 fn print(x: usize) {
@@ -110,12 +93,6 @@ fn print_cells(cells: usize, records: &[u8], rows: &[u8]) {
     }
 }
 
-fn node_memory() -> NodeWords
-    ensures { λ r. ⌜ 30720 ≡ length r ⌝ }
-{
-    [0u16; NODE_WORDS]
-}
-
 fn record_memory() -> [u8; MOST_RECORD_BYTES]
     ensures { λ r. ⌜ 80 ≡ length r ⌝ }
 {
@@ -130,10 +107,9 @@ fn row_memory() -> [u8; MOST_ROWS]
 
 // Prints the listing of the job and sheet of the input, or "refused N".
 pub fn list(input: &[u8]) {
-    let mut nodes = node_memory();
     let mut records = record_memory();
     let mut rows = row_memory();
-    let compiled = compile_input(input, &mut nodes, &mut records, &mut rows);
+    let compiled = compile_input(input, &mut records, &mut rows);
     if compiled.refusal != 0 {
         io::write_all(STDOUT_FILENO, b"refused");
         print_next(wide(compiled.refusal));
