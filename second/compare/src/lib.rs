@@ -30,6 +30,14 @@ pub struct Totals {
     pub bits: u32,
 }
 
+/// Where a walk from one cut to the next ends: the node reached and the outputs met, topmost most significant.
+#[repr(C)]
+#[derive(Clone, Copy, Debug, PartialEq, Eq)]
+pub struct Reached {
+    pub node: u16,
+    pub outputs: u32,
+}
+
 /// What a step answers: kind 1 with block and cell, 0 for Idle, 2 with the number of the refusal.
 #[repr(C)]
 #[derive(Clone, Copy, Debug, PartialEq, Eq)]
@@ -75,6 +83,34 @@ mod exported {
             widths: *mut [u16; super::WIDTHS],
             words: *mut [u16; super::NODE_WORDS],
         ) -> super::Reduction;
+        pub fn cascade_walk(
+            words: *const [u16; super::NODE_WORDS],
+            bits: u32,
+            height: u8,
+            node: u16,
+        ) -> u16;
+        pub fn cascade_same_columns(
+            words: *const [u16; super::NODE_WORDS],
+            height: u8,
+            v: u16,
+            u: u16,
+        ) -> bool;
+        pub fn cascade_compatible_columns(
+            words: *const [u16; super::NODE_WORDS],
+            height: u8,
+            v: u16,
+            u: u16,
+        ) -> bool;
+        pub fn cascade_descent(
+            words: *const [u16; super::NODE_WORDS],
+            order: *const u8,
+            order_length: usize,
+            top: u8,
+            bottom: u8,
+            node: u16,
+            inputs: u16,
+            count: u8,
+        ) -> super::Reached;
         pub fn cascade_compile(
             n: usize,
             m: usize,
@@ -122,8 +158,10 @@ mod exported {
 }
 
 mod state;
+mod walks;
 
 pub use state::{bank_bytes, scan_bytes, State};
+pub use walks::{compatible_columns, descent, same_columns, walk};
 
 use second::job::Job;
 

@@ -8,7 +8,10 @@ mod written;
 
 use crate::job::{Answer, Job, Lent, Node, Totals};
 use cuts::{rails, sum, Cell, Cutting};
-use function::{Columns, Function, FREE};
+
+pub use cover::compatible;
+pub use function::{Columns, Function, FREE};
+pub use written::nodes;
 
 /// The most columns a height may have before its merge.
 const MOST_COLUMNS: usize = 512;
@@ -113,7 +116,7 @@ fn build(job: &Job, mistake: Mistake) -> Result<Cascade, u8> {
     let cuts = cuts.ok_or(8)?;
     let cells = cutting.cells(&cuts);
     Ok(Cascade {
-        nodes: written::nodes(&function, &columns),
+        nodes: nodes(&function, &columns),
         records: written::records(&cutting, &cuts),
         rows: written::rows(&cutting, &columns, &cuts),
         cells: cells.len(),
@@ -135,6 +138,14 @@ fn reduce(function: &mut Function, mistake: Mistake) -> Result<Vec<usize>, u8> {
         cover::merge(function, height, mistake == Mistake::NextOutputOnly);
     }
     Ok(before)
+}
+
+/// The sheet's own function, and the same after all merges; or the refusal, 1 to 7.
+pub fn functions(job: &Job) -> Result<[Function; 2], u8> {
+    let own = sheet::read(job)?;
+    let mut merged = own.clone();
+    reduce(&mut merged, Mistake::None)?;
+    Ok([own, merged])
 }
 
 /// The number of columns at each height from t-1 down, before its own merge, up to the first that is
