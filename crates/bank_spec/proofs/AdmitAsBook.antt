@@ -17,8 +17,7 @@ use Rattle.laws.proofs.Counts.{sum-ext, sum-at}
 use Rattle.laws.proofs.Filled.{length-written, getD-written, getD-before}
 use Rattle.stored_spec.specs.StoredForm.{wellFormed, cellCount, rowCount}
 use Rattle.stored_spec.specs.Run.{unset}
-use Rattle.stored_spec.proofs.StoredParts.{records-have}
-use Rattle.stored_spec.proofs.ReadWriteCases.{formed-records, row-bytes}
+use Rattle.stored_spec.proofs.Promises.{records-have, formed-records, row-bytes}
 use Rattle.bank_spec.specs.State.{State, recordsOf, rowsHeld, cleared}
 use Rattle.bank_spec.specs.Calls.{numbered, admitRefusal, withBlock, admitted, admit, outputsOf, scanAt}
 use Rattle.bank_spec.specs.Book.{Block, Book, noBlock, blockAt, cellsIn, rowsIn, bookRefusal, wiped, entered, bookAdmit}

@@ -12,7 +12,7 @@ use Rattle.sheet_spec.specs.Job.{Job, t}
 use Rattle.sheet_spec.specs.Table.{table}
 use Rattle.reduction_spec.specs.declared.Node.{Node}
 use Rattle.cutting_spec.specs.Compile.{Answer, refused, accepted, Totals, CompiledAs, made, refusal, acceptance, compileAs, compile}
-use Rattle.cutting_spec.proofs.Demand2.{case, refuses, accepts, decided}
+use Rattle.cutting_spec.proofs.Promises.{case, refuses, accepts, decided}
 use Rattle.bank_spec.specs.Book.{Block}
 use Rattle.bank_spec.specs.Demand3.{CompiledBy}
 

@@ -16,18 +16,14 @@ use Rattle.laws.proofs.Filled.{written-front}
 use Rattle.sheet_spec.specs.Job.{Job, t, outs, varAt, isInput, inputList, numberOf}
 use Rattle.sheet_spec.specs.Refusals.{refuse1, refuse2, refuse3, refuse4, refuse5, refuse6, sheetRefusal}
 use Rattle.sheet_spec.specs.Table.{table}
-use Rattle.sheet_spec.proofs.LeastRefusal.{job-accepted}
-use Rattle.sheet_spec.proofs.OrderHeights.{output-height}
+use Rattle.sheet_spec.proofs.Promises.{job-accepted, output-height}
 use Rattle.reduction_spec.specs.declared.Node.{Node}
 use Rattle.reduction_spec.specs.Merge.{reduced, refuse7}
 use Rattle.stored_spec.specs.StoredForm.{cellCount}
 use Rattle.stored_spec.specs.Run.{Running, run}
 use Rattle.cutting_spec.specs.Choice.{refuse8}
 use Rattle.cutting_spec.specs.Compile.{Answer, refused, accepted, CompiledAs, made, totals, acceptance, compile}
-use Rattle.cutting_spec.proofs.Demand2.{case, accepts}
-use Rattle.cutting_spec.proofs.StoredCuts.{cuts-some, length-stored}
-use Rattle.cutting_spec.proofs.Emits.{Emitted, emitted-allowed, compiled-unset}
-use Rattle.cutting_spec.proofs.MadeCascade.{cells-count, made-cuts, made-count, made-emits, made-all}
+use Rattle.cutting_spec.proofs.Promises.{case, accepts, cuts-some, length-stored, Emitted, emitted-allowed, compiled-unset, cells-count, made-cuts, made-count, made-emits, made-all}
 use Rattle.bank_spec.specs.Book.{Block}
 use Rattle.bank_spec.specs.Demand3.{CompiledBy, SetAllowed}
 use Rattle.bank_spec.proofs.CompiledAs.{none}

@@ -13,13 +13,12 @@ use Rattle.sheet_spec.specs.Job.{Job, t}
 use Rattle.sheet_spec.specs.Table.{table}
 use Rattle.reduction_spec.specs.Columns.{layers}
 use Rattle.reduction_spec.specs.Merge.{reduced}
-use Rattle.reduction_spec.proofs.AcceptedSheet.{width-layer}
+use Rattle.reduction_spec.proofs.Promises.{width-layer}
 use Rattle.stored_spec.specs.StoredForm.{cutByte, railByte, member, stored}
 use Rattle.stored_spec.specs.Rails.{rails, railsAt}
-use Rattle.stored_spec.proofs.Rails.{rails-enough, rails-least, rails-at}
+use Rattle.stored_spec.proofs.Promises.{rails-enough, rails-least, rails-at}
 use Rattle.cutting_spec.specs.Compile.{made}
-use Rattle.cutting_spec.proofs.StoredCuts.{stored-cut, stored-rails}
-use Rattle.cutting_spec.proofs.RailCounts.{width-at}
+use Rattle.cutting_spec.proofs.Promises.{stored-cut, stored-rails, width-at}
 use Rattle.bank_spec.specs.Book.{Block}
 use Rattle.bank_spec.specs.Demand3.{CompiledBy, FewestBits, mergedColumns}
 use Rattle.laws.proofs.DifferentWords.{different-words}

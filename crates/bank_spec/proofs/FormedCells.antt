@@ -20,8 +20,7 @@ use Rattle.sheet_spec.specs.Job.{isInput}
 use Rattle.stored_spec.specs.Cells.{rows}
 use Rattle.stored_spec.specs.StoredForm.{StoredCell, Reading, recordCount, variable, cutByte, railByte, lastByte, withVariable, withCut, reading, storedCells, cellCount, noCell, cellAt, sizeOf, rowsBefore, rowCount, recordFormed, recordsFormed}
 use Rattle.stored_spec.specs.Run.{address, rowPlace}
-use Rattle.stored_spec.proofs.StoredParts.{records-have}
-use Rattle.stored_spec.proofs.StoredCells.{cellsTo, endedCell, next-ended, longer}
+use Rattle.stored_spec.proofs.Promises.{records-have, cellsTo, endedCell, next-ended, longer}
 
 -- each number of the list is below n
 abbrev AllBelow : ℕ → List ℕ → Type 0

@@ -1,4 +1,4 @@
--- Laws of the definitions; other crates may cite those that are `pub`.
+-- Laws of the definitions. The crates of the layer may cite those that are `pub`, the layers above those of Promises alone.
 mod AdmitAsBook
 pub mod AsBook
 mod BookHolds
@@ -13,6 +13,7 @@ pub mod FewestRails
 pub mod FormedCells
 mod LatchAsBook
 mod LatchKeeps
+pub mod Promises
 pub mod Related
 mod Reworded
 mod ScanClaims

@@ -15,9 +15,7 @@ use Rattle.laws.proofs.Lists.{length-tab}
 use Rattle.laws.proofs.Filled.{length-written}
 use Rattle.stored_spec.specs.StoredForm.{wellFormed, cellCount, cellAt}
 use Rattle.stored_spec.specs.Run.{outputsAfter}
-use Rattle.stored_spec.proofs.StoredParts.{records-have}
-use Rattle.stored_spec.proofs.ReadWriteCases.{formed-records}
-use Rattle.stored_spec.proofs.Runs.{set-length}
+use Rattle.stored_spec.proofs.Promises.{records-have, formed-records, set-length}
 use Rattle.bank_spec.specs.State.{State, Bank, Scan, recordsOf, cellsHeld, rowsHeld, blockFormed, bankFormed, scanFormed, formed}
 use Rattle.bank_spec.specs.Calls.{After, admitRefusal, withBlock, admitted, admit, wordsKept, latched, latch, nextRow, outputsOf, moved, step}
 use Rattle.bank_spec.specs.CallLists.{Call, admission, latching, stepping, call}

@@ -20,7 +20,7 @@ use Rattle.laws.proofs.Counts.{sum-ext, sum-at}
 use Rattle.laws.proofs.Filled.{length-written}
 use Rattle.stored_spec.specs.StoredForm.{wellFormed, cellCount, cellAt, rowCount}
 use Rattle.stored_spec.specs.Run.{rowPlace, outputsAfter, railAfter}
-use Rattle.stored_spec.proofs.Runs.{set-length}
+use Rattle.stored_spec.proofs.Promises.{set-length}
 use Rattle.bank_spec.specs.State.{State, Scan, recordsOf, rowsBefore, rowsHeld, formed}
 use Rattle.bank_spec.specs.Calls.{idle, went, After, scanAt, nextRow, outputsOf, moved, step}
 use Rattle.bank_spec.specs.Book.{Block, Place, Book, noBlock, blockAt, allPlaces, readCell, bookStep}

@@ -18,7 +18,7 @@ use Rattle.bank_spec.specs.State.{fresh}
 use Rattle.bank_spec.specs.Book.{Block}
 use Rattle.bank_spec.specs.CallLists.{Call, admission, latching, stepping, stateAfter, trace}
 use Rattle.bank_spec.specs.Demand3.{CompiledBy, SetAllowed, outputIn, OnlyUnread, blocks, reads, ScanClaim}
-use Rattle.bank_spec.proofs.Demand3.{demand3}
+use Rattle.bank_spec.proofs.Promises.{demand3}
 use Rattle.claims.proofs.WrittenBlocks.{outcome-compiled}
 
 -- the compiler over words writes it, and so it is a compiled block, with whatever word, rails and outputs it stands in a book

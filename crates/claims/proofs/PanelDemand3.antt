@@ -18,8 +18,7 @@ use Rattle.bank_spec.specs.State.{State, formed, rowsHeld, emptyBank, atRest, f
 use Rattle.bank_spec.specs.Calls.{Answer, After, numbered, admitRefusal, admitted, admit, latched, latch, step}
 use Rattle.bank_spec.specs.CallLists.{Call, admission, latching, stepping, call, stateAfter, outputsHeld, trace}
 use Rattle.bank_spec.specs.Demand3.{reworded}
-use Rattle.bank_spec.proofs.StateSizes.{Sized, call-sized}
-use Rattle.bank_spec.proofs.Demand3.{demand3}
+use Rattle.bank_spec.proofs.Promises.{Sized, call-sized, demand3}
 use Rattle.panel_calls.specs.StateBytes.{pairAt, bankIn, scanIn, bankBytes, scanBytes, wordByte, changes, bankLent, scanLent, made, numberOf, newBytes, admitBytes, latchBytes, stepBytes}
 use Rattle.claims.specs.ExportedCalls.{Lent, lent, held, Said, exported, exportedNew, lentAfter, SaidEntry, exportedTrace, saidOf, inNumbers, number, withWords}
 use Rattle.claims.specs.PanelDemand3.{begun, PanelDemand3}

@@ -13,10 +13,10 @@ use Rattle.sheet_spec.specs.Table.{table}
 use Rattle.reduction_spec.specs.declared.Node.{Node}
 use Rattle.reduction_spec.specs.Diagram.{nodeWords}
 use Rattle.cutting_spec.specs.Compile.{accepted, Totals, CompiledAs, made, totals, refusal, acceptance, compileAs, compile, compileWords}
-use Rattle.cutting_spec.proofs.Demand2.{Lowest, refuses, accepts, decided}
+use Rattle.cutting_spec.proofs.Promises.{Lowest, refuses, accepts, decided}
 use Rattle.bank_spec.specs.Book.{Block}
 use Rattle.bank_spec.specs.Demand3.{CompiledBy}
-use Rattle.bank_spec.proofs.CompiledAs.{as-compiled}
+use Rattle.bank_spec.proofs.Promises.{as-compiled}
 use Rattle.cutting.specs.Outcome.{answered, outcome}
 use Rattle.node_table.specs.Nodes.{nodeOutcome}
 use Rattle.panel_calls.specs.Exported.{totalsOf, compileBytes}

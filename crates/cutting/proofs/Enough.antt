@@ -16,9 +16,7 @@ use Rattle.reduction_spec.specs.Columns.{layers}
 use Rattle.reduction_spec.specs.Merge.{reduced, refuse7}
 use Rattle.reduction_spec.specs.Diagram.{nodeWords}
 use Rattle.reduction_spec.specs.Reduction.{reductionRefusal}
-use Rattle.reduction_spec.proofs.NodeWords.{length-nodeWords}
-use Rattle.reduction_spec.proofs.AcceptedSheet.{nodes-fit}
-use Rattle.reduction_spec.proofs.LentAfter.{accepted, narrow, few-variables}
+use Rattle.reduction_spec.proofs.Promises.{length-nodeWords, nodes-fit, accepted, narrow, few-variables}
 use Rattle.stored_spec.specs.Cells.{allFit, rowTotal}
 use Rattle.cutting_spec.specs.Cuts.{cellsOf}
 use Rattle.cutting_spec.specs.Choice.{admissible, refuse8}

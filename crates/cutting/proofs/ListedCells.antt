@@ -16,7 +16,7 @@ use Rattle.laws.proofs.Counts.{sum-front}
 use Rattle.sheet_spec.specs.Job.{Job, t}
 use Rattle.sheet_spec.specs.Refusals.{sheetRefusal}
 use Rattle.sheet_spec.specs.Table.{table}
-use Rattle.sheet_spec.proofs.Orders.{ins-rise, outs-rise, ins-outs}
+use Rattle.sheet_spec.proofs.Promises.{ins-rise, outs-rise, ins-outs}
 use Rattle.cutting_spec.specs.Cuts.{CutList, cellBetween}
 use Rattle.stored_spec.specs.Cells.{rows}
 use Rattle.cutting_spec.specs.Choice.{refuse8}
@@ -27,7 +27,7 @@ use Rattle.stored.specs.declared.CellPlace.{CellPlace}
 use Rattle.stored.specs.Places.{variablesOf, heightAbove, cellPlace}
 use Rattle.cutting_spec.proofs.StoredCuts.{storedBetween, between-ins, between-outs, record-count, cuts-fall, cuts-first, cell-at, cell-count, rows-before}
 use Rattle.cutting_spec.proofs.MadeCascade.{made-cuts, made-count, made-formed}
-use Rattle.stored.proofs.CellPlaces.{between, between-same}
+use Rattle.stored.proofs.Promises.{between, between-same}
 
 -- the variables between two cuts
 variables-between : (j : Job) (ws : List ℕ) (a b : ℕ) → b ≤ a → variablesOf (storedBetween j ws a b) + b ≡ a

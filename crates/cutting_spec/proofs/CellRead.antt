@@ -17,11 +17,10 @@ use Rattle.laws.proofs.Bits.{bit-suc}
 use Rattle.laws.proofs.Masks.{not-both}
 use Rattle.sheet_spec.specs.Job.{Job, t, ins, outs, varAt, isInput, inputList, numberOf}
 use Rattle.sheet_spec.specs.Refusals.{notEachOnce}
-use Rattle.sheet_spec.proofs.Orders.{ins-rise, outs-rise}
-use Rattle.sheet_spec.proofs.OrderHeights.{ins-input, ins-output, outs-input, outs-output, input-bit, output-low, output-one}
+use Rattle.sheet_spec.proofs.Promises.{ins-rise, outs-rise, ins-input, ins-output, outs-input, outs-output, input-bit, output-low, output-one}
 use Rattle.stored_spec.specs.StoredForm.{appended}
 use Rattle.stored_spec.specs.Run.{address, setOutputs}
-use Rattle.stored_spec.proofs.Runs.{set-length}
+use Rattle.stored_spec.proofs.Promises.{set-length}
 use Rattle.cutting_spec.proofs.StoredCuts.{insFrom, outsFrom}
 
 -- one more input, one more output

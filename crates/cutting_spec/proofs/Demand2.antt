@@ -4,9 +4,14 @@
 --   the totals, and each memory with what is made at its front;
 -- - `no-list`, `best-list`, `only-list`: 8 exactly where no cut list is admissible, else the chosen list is the one best of all;
 -- - `made-stored`, `made-read`: what is written is well formed, and reading it, then writing it gives the same bytes;
+-- - `made-width`, `made-diagram`, `made-implies`: the widths are those of document 000, definition 3.5, and the diagram computes the
+--   characteristic function of the function after all merges, which implies that of the sheet (definition 2.3);
+-- - `sheet-diagram`, `sheet-width`, `merge-and`, passed on from reduction: before merging the diagram computes the sheet's own characteristic
+--   function, with no bound on its nodes, and its widths are definition 3.5's; a merge replaces each column's by the AND over its clique
+--   (document 000, algorithm 3.3);
 -- - `made-rail`, `made-allowed`: for every word, the rail word at each cut is the number of the merged column, and in the end each output is
 --   set to a value that the sheet allows.
--- That stored cascades survive in general, both ways, is in the crate stored, RoundTrips.
+-- That stored cascades survive in general, both ways, is in stored_spec, RoundTrips; that greedy cutting needs no more cells, in GreedyCells.
 -- Assumes nothing.
 use mathlib.Core.Path.{_≡_, refl, sym, _∙_, ap}
 use mathlib.Core.Logic.{_⊎_, inl, inr}
@@ -21,23 +26,31 @@ use Rattle.laws.specs.Tests.{least}
 use Rattle.laws.specs.Lists.{written}
 use Rattle.laws.proofs.Cases.{either, by-less, cond-yes, cond-no}
 use Rattle.laws.proofs.Find.{least-is, least-hit, least-before}
-use Rattle.sheet_spec.specs.Job.{Job, t, ins, inputList, numberOf}
+use Rattle.laws.specs.Bits.{flag}
+use Rattle.laws.proofs.Bits.{flag-is}
+use Rattle.sheet_spec.specs.Job.{Job, t, ins, inputList, wordOf, numberOf}
+use Rattle.sheet_spec.specs.Characteristic.{chi}
 use Rattle.sheet_spec.specs.Values.{value, allows}
 use Rattle.sheet_spec.specs.Refusals.{refuse1, refuse2, refuse3, refuse4, refuse5, refuse6, sheetRefusal}
 use Rattle.sheet_spec.specs.Table.{table}
 use Rattle.reduction_spec.specs.declared.Node.{Node}
 use Rattle.reduction_spec.specs.Columns.{layers, layer, numberAt}
 use Rattle.reduction_spec.specs.Merge.{reduced, refuse7}
+use Rattle.reduction_spec.specs.Walk.{nodeWalk}
+use Rattle.reduction_spec.specs.Cofactors.{inputsIn, outputsIn, chiOf, cofactorWidth}
+use Rattle.reduction_spec.proofs.Promises.{width-layer, chi-sheet, final-implies, final-width, final-diagram}
+pub use Rattle.reduction_spec.proofs.Promises.{sheet-diagram, sheet-width, merge-and}
 use Rattle.cutting_spec.specs.Cuts.{CutList, cutLists}
 use Rattle.cutting_spec.specs.Choice.{admissible, better, isNone, chosen, refuse8}
 use Rattle.stored_spec.specs.StoredForm.{wellFormed}
 use Rattle.stored_spec.specs.Run.{run}
 use Rattle.stored_spec.specs.ReadWrite.{read, wasRead, notRead, cascadeOf, write, writtenAs}
 use Rattle.cutting_spec.specs.Compile.{made, refusal, acceptance, lend, reduce, compileAs}
+use Rattle.cutting_spec.proofs.RailCounts.{width-at}
 use Rattle.cutting_spec.proofs.CutLists.{member-of, of-falls}
 use Rattle.cutting_spec.proofs.Better.{better-total, best-of}
 use Rattle.cutting_spec.proofs.ChosenCuts.{cuts-none}
-use Rattle.stored_spec.proofs.RoundTrips.{read-write}
+use Rattle.stored_spec.proofs.Promises.{read-write}
 use Rattle.cutting_spec.proofs.MadeCascade.{made-formed, made-emits, made-all}
 
 -- the first of eleven tests that holds, as nested choices and as a search
@@ -162,6 +175,26 @@ module _ (j : Job) (s : List ℕ) (e : sheetRefusal j s ≡ 0) (kept : refuse8 j
       let bytes = made j (table j s) .rows in
       let was : read R bytes ≡ wasRead (cascadeOf R bytes) = cond-yes (wellFormed R bytes) (wasRead (cascadeOf R bytes)) (notRead 12) made-stored in
       (was, read-write R bytes (cascadeOf R bytes) was records rows p q)
+
+  -- the widths, at the heights 0 to t, are those of definition 3.5
+  pub made-width : (h : ℕ) → h ≤ t j → getD (made j (table j s) .widths) h 0 ≡ cofactorWidth j (reduced j (table j s)) h
+  unfolding made
+  made-width h l =
+      let f = reduced j (table j s) in
+      width-at (layers j f) h ∙ width-layer j f h l ∙ final-width j s e h l
+
+  -- the nodes, walked from node 2 with the values z of all variables, end at 1 exactly where the final function's chi is true
+  pub made-diagram : (z : ℕ) → nodeWalk (made j (table j s) .nodes) z (t j) 2 ≡ flag (chiOf j (reduced j (table j s)) z)
+  unfolding made
+  made-diagram z = final-diagram j s e z
+
+  -- and then the sheet's is
+  pub made-implies : (z : ℕ) → nodeWalk (made j (table j s) .nodes) z (t j) 2 ≡ 1
+      → chi (j .m) s (wordOf (inputList j) (inputsIn j z)) (outputsIn j z) ≡ true
+  made-implies z ends =
+      let b = chiOf j (reduced j (table j s)) z in
+      let holds : b ≡ true = sym (flag-is b) ∙ eq-eqb (flag b) 1 (sym (made-diagram z) ∙ ends) in
+      sym (chi-sheet j s e z) ∙ final-implies j s e z holds
 
   -- for every word w, at the k-th cut: the rail word is the number of the merged column of w's prefix
   pub made-rail : (w k : ℕ) → k < length (made j (table j s) .cuts)

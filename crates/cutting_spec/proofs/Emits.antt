@@ -22,18 +22,10 @@ use Rattle.sheet_spec.specs.Values.{forcedTo0, forcedTo1, free, value, allows}
 use Rattle.sheet_spec.specs.Refusals.{notEachOnce, sheetRefusal}
 use Rattle.sheet_spec.specs.Table.{tableAt, table}
 use Rattle.sheet_spec.specs.Accepted.{Accepted}
-use Rattle.sheet_spec.proofs.RecordFields.{good-at}
-use Rattle.sheet_spec.proofs.Orders.{input-below}
-use Rattle.sheet_spec.proofs.Words.{number-bit, number-small, word-number}
-use Rattle.sheet_spec.proofs.LinesSettled.{insBelow}
-use Rattle.sheet_spec.proofs.LeastRefusal.{job-accepted}
-use Rattle.sheet_spec.proofs.Tables.{value-below}
-use Rattle.sheet_spec.proofs.OrderHeights.{output-number, output-listed, output-one, output-height}
+use Rattle.sheet_spec.proofs.Promises.{good-at, input-below, number-bit, number-small, word-number, insBelow, job-accepted, value-below, output-number, output-listed, output-one, output-height}
 use Rattle.reduction_spec.specs.Columns.{numberAt, layers, layer, widthIn}
 use Rattle.reduction_spec.specs.Merge.{reduced}
-use Rattle.reduction_spec.proofs.MergeKeepsOrderRule.{Ruled}
-use Rattle.reduction_spec.proofs.AllMerges.{width-top}
-use Rattle.reduction_spec.proofs.AcceptedSheet.{width-layer, reduced-refines, reduced-ruled}
+use Rattle.reduction_spec.proofs.Promises.{Ruled, width-top, width-layer, reduced-refines, reduced-ruled}
 use Rattle.stored_spec.specs.Cells.{rows}
 use Rattle.cutting_spec.specs.Cuts.{CutList, cellInputs, cellBetween}
 use Rattle.stored_spec.specs.Rails.{railsAt}
@@ -41,7 +33,7 @@ use Rattle.cutting_spec.specs.Compile.{widthsOf}
 use Rattle.cutting_spec.specs.Rows.{rowOf, cascadeRows}
 use Rattle.stored_spec.specs.StoredForm.{StoredCell, cellAt, rowsBefore, stored}
 use Rattle.stored_spec.specs.Run.{address, rowPlace, setOutputs, outputsAfter, railAfter, unset, Running, ranOne, run}
-use Rattle.stored_spec.proofs.Runs.{set-length}
+use Rattle.stored_spec.proofs.Promises.{set-length}
 use Rattle.cutting_spec.proofs.StoredCuts.{outsFrom, storedBetween, cell-at, rows-at, cuts-fall, cuts-most, cuts-first, cuts-last, cuts-some}
 use Rattle.cutting_spec.proofs.RailCounts.{rails-hold}
 use Rattle.cutting_spec.proofs.CellRead.{address-between, set-between, kept-between}

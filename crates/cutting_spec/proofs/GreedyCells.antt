@@ -17,16 +17,13 @@ use Rattle.sheet_spec.specs.Job.{Job, t, ins, outs}
 use Rattle.sheet_spec.specs.Refusals.{notEachOnce, sheetRefusal}
 use Rattle.sheet_spec.specs.Table.{table}
 use Rattle.sheet_spec.specs.Accepted.{Accepted}
-use Rattle.sheet_spec.proofs.Orders.{ins-rise, outs-rise}
-use Rattle.sheet_spec.proofs.LeastRefusal.{job-accepted}
+use Rattle.sheet_spec.proofs.Promises.{ins-rise, outs-rise, job-accepted}
 use Rattle.reduction_spec.specs.Columns.{firstsAt, width, layers, widthIn}
 use Rattle.reduction_spec.specs.Merge.{reduced}
-use Rattle.reduction_spec.proofs.ColumnNumbers.{width-few}
-use Rattle.reduction_spec.proofs.WidthsBelow.{width-step}
-use Rattle.reduction_spec.proofs.AcceptedSheet.{width-layer}
+use Rattle.reduction_spec.proofs.Promises.{width-few, width-step, width-layer}
 use Rattle.stored_spec.specs.Cells.{fits, allFit}
 use Rattle.stored_spec.specs.Rails.{rails, railsAt}
-use Rattle.stored_spec.proofs.Rails.{rails-least, rails-at}
+use Rattle.stored_spec.proofs.Promises.{rails-least, rails-at}
 use Rattle.cutting_spec.specs.Cuts.{CutList, bottom, next, cellInputs, cellOutputs, cellBetween, cellsOf}
 use Rattle.cutting_spec.specs.Choice.{admissible, chosen, refuse8}
 use Rattle.cutting_spec.specs.Greedy.{greedyNext, greedyFrom, greedy}

@@ -1,4 +1,4 @@
--- Laws of the definitions; other crates may cite those that are `pub`.
+-- Laws of the definitions. The crates of the layer may cite those that are `pub`, the layers above those of Promises alone.
 pub mod Better
 pub mod CellRead
 pub mod ChosenCuts
@@ -8,6 +8,7 @@ pub mod Emits
 mod Examples
 pub mod GreedyCells
 pub mod MadeCascade
+pub mod Promises
 pub mod RailCounts
 pub mod RowLimit
 mod RowRead

@@ -11,10 +11,9 @@ use Rattle.laws.proofs.Lists.{getD-tab}
 use Rattle.sheet_spec.specs.Job.{Job, t}
 use Rattle.sheet_spec.specs.Refusals.{notEachOnce}
 use Rattle.reduction_spec.specs.Columns.{firstsAt, width, layers, layer, widthIn}
-use Rattle.reduction_spec.proofs.AllMerges.{width-top}
-use Rattle.reduction_spec.proofs.AcceptedSheet.{width-layer}
+use Rattle.reduction_spec.proofs.Promises.{width-top, width-layer}
 use Rattle.stored_spec.specs.Rails.{rails, railsAt}
-use Rattle.stored_spec.proofs.Rails.{rails-enough, rails-top, rails-at}
+use Rattle.stored_spec.proofs.Promises.{rails-enough, rails-top, rails-at}
 use Rattle.cutting_spec.specs.Compile.{widthsOf}
 
 -- the smallest prefixes, and the width, at a height

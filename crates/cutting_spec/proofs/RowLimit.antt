@@ -14,12 +14,11 @@ use borrow.Author.Tests.{leb-true, le-leb, eq-eqb}
 use Rattle.laws.proofs.Cases.{by-test, by-less, cond-yes, cond-both, and-split, and-join, and-left-no}
 use Rattle.sheet_spec.specs.Job.{Job, t, ins, outs}
 use Rattle.sheet_spec.specs.Refusals.{notEachOnce}
-use Rattle.sheet_spec.proofs.Orders.{ins-rise, outs-rise, outs-all, ins-outs}
-use Rattle.sheet_spec.proofs.OrderHeights.{ins-below}
+use Rattle.sheet_spec.proofs.Promises.{ins-rise, outs-rise, outs-all, ins-outs, ins-below}
 use Rattle.stored_spec.specs.Cells.{fits, rows, allFit, rowTotal}
 use Rattle.cutting_spec.specs.Cuts.{CutList, bottom, next, cellInputs, cellOutputs, cellBetween, cellsOf}
 use Rattle.stored_spec.specs.Rails.{railsAt}
-use Rattle.stored_spec.proofs.Rails.{rails-least}
+use Rattle.stored_spec.proofs.Promises.{rails-least}
 use Rattle.cutting_spec.specs.Choice.{admissible}
 
 pow-twice : (i : ℕ) → 2 ^ (i + 1) ≡ 2 * 2 ^ i

@@ -20,13 +20,9 @@ use Rattle.laws.proofs.Bits.{flag-lt}
 use Rattle.laws.proofs.Powers.{sum-bit, sum-small, sum-moved}
 use Rattle.sheet_spec.specs.Job.{Job, t, ins, outs, varAt, isInput}
 use Rattle.sheet_spec.specs.Refusals.{notEachOnce}
-use Rattle.sheet_spec.proofs.Orders.{ins-rise, outs-rise}
-use Rattle.sheet_spec.proofs.LinesSettled.{insBelow, insBelow-at}
-use Rattle.sheet_spec.proofs.OrderHeights.{outs-output, ins-below, outs-below, output-number}
+use Rattle.sheet_spec.proofs.Promises.{ins-rise, outs-rise, insBelow, insBelow-at, outs-output, ins-below, outs-below, output-number}
 use Rattle.reduction_spec.specs.Columns.{entry, same, firstsAt, numberAt, layers, layer, widthIn}
-use Rattle.reduction_spec.proofs.ColumnNumbers.{same-entry, entry-same, number-below, number-same, numberIn-equal}
-use Rattle.reduction_spec.proofs.MergeKeeps.{same-deeper}
-use Rattle.reduction_spec.proofs.MergeKeepsOrderRule.{Ruled}
+use Rattle.reduction_spec.proofs.Promises.{same-entry, entry-same, number-below, number-same, numberIn-equal, same-deeper, Ruled}
 use Rattle.stored_spec.specs.Rails.{railsAt}
 use Rattle.cutting_spec.specs.Compile.{widthsOf}
 use Rattle.cutting_spec.specs.Rows.{emitted, rowOf, row}

@@ -16,7 +16,7 @@ use Rattle.laws.proofs.Cases.{by-test, cond-yes, cond-no}
 use Rattle.laws.proofs.Counts.{sum-ext, sum-front}
 use Rattle.laws.proofs.Lists.{length-tab, getD-tab}
 use Rattle.sheet_spec.specs.Job.{Job, t, ins, outs, varAt, isInput}
-use Rattle.sheet_spec.proofs.OrderHeights.{ins-input, ins-output, outs-input, outs-output}
+use Rattle.sheet_spec.proofs.Promises.{ins-input, ins-output, outs-input, outs-output}
 use Rattle.stored_spec.specs.Cells.{cell, rows, rowTotal}
 use Rattle.cutting_spec.specs.Cuts.{CutList, bottom, next, cellInputs, cellOutputs, cellBetween, cellsOf}
 use Rattle.stored_spec.specs.Rails.{railsAt}

@@ -19,14 +19,10 @@ use Rattle.sheet_spec.specs.Job.{Job, t, ins, outs, varAt, isInput}
 use Rattle.sheet_spec.specs.Refusals.{outOfRange, notEachOnce, sheetRefusal}
 use Rattle.sheet_spec.specs.Table.{table}
 use Rattle.sheet_spec.specs.Accepted.{Accepted}
-use Rattle.sheet_spec.proofs.Orders.{ins-rise, ins-all}
-use Rattle.sheet_spec.proofs.LeastRefusal.{given1, job-accepted}
-use Rattle.sheet_spec.proofs.OrderHeights.{input-low, output-low, output-byte, variable-one}
+use Rattle.sheet_spec.proofs.Promises.{ins-rise, ins-all, given1, job-accepted, input-low, output-low, output-byte, variable-one}
 use Rattle.reduction_spec.specs.Columns.{firstsAt, layers, layer, widthIn}
 use Rattle.reduction_spec.specs.Merge.{reduced}
-use Rattle.reduction_spec.proofs.ColumnNumbers.{first-below}
-use Rattle.reduction_spec.proofs.AllMerges.{width-bottom}
-use Rattle.reduction_spec.proofs.AcceptedSheet.{width-layer}
+use Rattle.reduction_spec.proofs.Promises.{first-below, width-bottom, width-layer}
 use Rattle.stored_spec.specs.declared.Cell.{Cell}
 use Rattle.stored_spec.specs.Cells.{fits, rows, allFit, rowTotal}
 use Rattle.cutting_spec.specs.Cuts.{CutList, cellOutputs, cellBetween, cellsOf}
@@ -35,7 +31,7 @@ use Rattle.cutting_spec.specs.Choice.{admissible}
 use Rattle.cutting_spec.specs.Compile.{widthsOf}
 use Rattle.cutting_spec.specs.Rows.{row, cascadeRows}
 use Rattle.stored_spec.specs.StoredForm.{recordCount, variable, cutByte, railByte, lastByte, cellCount, cellAt, sizeOf, rowsBefore, rowCount, recordFormed, cellFormed, recordsFormed, rowsFormed, wellFormed, member, stored}
-use Rattle.stored_spec.proofs.Rails.{rails-least, rails-at}
+use Rattle.stored_spec.proofs.Promises.{rails-least, rails-at}
 use Rattle.cutting_spec.proofs.StoredCuts.{stored-length, stored-variable, stored-cut, stored-rails, stored-last, record-count, member-bottom, cuts-fall, cuts-most, cell-count, cell-size, rows-at, rows-length, rows-total}
 use Rattle.cutting_spec.proofs.RailCounts.{width-at, layer-at}
 use Rattle.cutting_spec.proofs.RowRead.{row-small}

@@ -19,9 +19,7 @@ use Rattle.sheet_spec.specs.Table.{table}
 use Rattle.reduction_spec.specs.Merge.{refuse7}
 use Rattle.reduction_spec.specs.Diagram.{node, nodeWords}
 use Rattle.reduction_spec.specs.declared.Node.{Node}
-use Rattle.reduction_spec.proofs.NodeWords.{length-nodeWords}
-use Rattle.reduction_spec.proofs.NodeChildren.{words-height, words-low, words-high}
-use Rattle.reduction_spec.proofs.AcceptedSheet.{nodes-fit}
+use Rattle.reduction_spec.proofs.Promises.{length-nodeWords, words-height, words-low, words-high, nodes-fit}
 use Rattle.cutting_spec.specs.Choice.{refuse8}
 use Rattle.cutting_spec.specs.Compile.{Made, made, totals, CompiledAs, Compiled, refusal, acceptance, lend, reduce, compileAs, compile, compileWords}
 use Rattle.cutting.specs.Outcome.{Outcome, answered, outcomeOf, outcome}

@@ -18,9 +18,7 @@ use Rattle.sheet_spec.specs.Job.{Job, t}
 use Rattle.sheet_spec.specs.Refusals.{outOfRange, refuse1, sheetRefusal}
 use Rattle.sheet_spec.specs.Table.{tableAt, table}
 use Rattle.sheet_spec.specs.Accepted.{Accepted}
-use Rattle.sheet_spec.proofs.Tables.{table-entry, table-below}
-use Rattle.sheet_spec.proofs.LeastRefusal.{job-accepted}
-use Rattle.sheet_spec.proofs.LinesSettled.{insBelow, table-ruled}
+use Rattle.sheet_spec.proofs.Promises.{table-entry, table-below, job-accepted, insBelow, table-ruled}
 use Rattle.reduction_spec.specs.Merge.{reduced, refuse7}
 use Rattle.reduction_spec.specs.Columns.{firstsAt, width, layers, widthIn}
 use Rattle.reduction_spec.specs.Diagram.{nodeAt, nodesTo, nodes}

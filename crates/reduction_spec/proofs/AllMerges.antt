@@ -14,8 +14,7 @@ use Rattle.laws.proofs.Tests.{any-out}
 use Rattle.laws.proofs.Masks.{not-both}
 use Rattle.sheet_spec.specs.Job.{Job, t, ins, outs}
 use Rattle.sheet_spec.specs.Refusals.{notEachOnce}
-use Rattle.sheet_spec.proofs.Orders.{ins-rise, outs-rise, ins-all, outs-all}
-use Rattle.sheet_spec.proofs.LinesSettled.{insBelow, insBelow-ins}
+use Rattle.sheet_spec.proofs.Promises.{ins-rise, outs-rise, ins-all, outs-all, insBelow, insBelow-ins}
 use Rattle.reduction_spec.specs.Columns.{same, firsts, firstsAt, numberAt, width}
 use Rattle.reduction_spec.specs.Merge.{mergeAt, merged, reduced, tooWide, refuse7}
 use Rattle.reduction_spec.proofs.ColumnNumbers.{firsts-rise, first-smallest, width-positive, width-few, firsts-ext, numberIn-ext}

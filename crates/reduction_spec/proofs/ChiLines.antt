@@ -20,11 +20,7 @@ use Rattle.sheet_spec.specs.Table.{tableAt, table}
 use Rattle.sheet_spec.specs.Characteristic.{meets, chi}
 use Rattle.sheet_spec.specs.Accepted.{Accepted}
 use Rattle.sheet_spec.specs.Refusals.{notEachOnce, sheetRefusal}
-use Rattle.sheet_spec.proofs.Orders.{output-below, outs-all}
-use Rattle.sheet_spec.proofs.Tables.{table-entry, table-below}
-use Rattle.sheet_spec.proofs.LeastRefusal.{job-accepted}
-use Rattle.sheet_spec.proofs.Chi.{meets-allows, chi-allows}
-use Rattle.sheet_spec.proofs.OrderHeights.{output-number, output-listed, output-byte, output-height}
+use Rattle.sheet_spec.proofs.Promises.{output-below, outs-all, table-entry, table-below, job-accepted, meets-allows, chi-allows, output-number, output-listed, output-byte, output-height}
 use Rattle.reduction_spec.specs.Merge.{reduced}
 use Rattle.reduction_spec.specs.Cofactors.{inputsIn, outputsIn, chiOf}
 use Rattle.reduction_spec.proofs.AcceptedSheet.{reduced-refines}

@@ -25,11 +25,7 @@ use Rattle.sheet_spec.specs.Characteristic.{meets}
 use Rattle.sheet_spec.specs.Table.{table}
 use Rattle.sheet_spec.specs.Accepted.{Accepted}
 use Rattle.sheet_spec.specs.Refusals.{notEachOnce, sheetRefusal}
-use Rattle.sheet_spec.proofs.Chi.{meets-allows}
-use Rattle.sheet_spec.proofs.Orders.{ins-rise, ins-all}
-use Rattle.sheet_spec.proofs.Tables.{table-below}
-use Rattle.sheet_spec.proofs.LeastRefusal.{job-accepted}
-use Rattle.sheet_spec.proofs.LinesSettled.{insBelow}
+use Rattle.sheet_spec.proofs.Promises.{meets-allows, ins-rise, ins-all, table-below, job-accepted, insBelow}
 use Rattle.reduction_spec.specs.Columns.{entry, same, firsts, firstsAt, width}
 use Rattle.reduction_spec.specs.Merge.{reduced}
 use Rattle.reduction_spec.specs.Diagram.{topValue}

@@ -18,10 +18,7 @@ use Rattle.laws.proofs.Powers.{place-below}
 use Rattle.laws.proofs.Bits.{bit-lt}
 use Rattle.sheet_spec.specs.Job.{Job, t, ins, outs, varAt, isInput}
 use Rattle.sheet_spec.specs.Refusals.{notEachOnce}
-use Rattle.sheet_spec.proofs.RecordFields.{order-length}
-use Rattle.sheet_spec.proofs.Orders.{ins-rise, outs-rise}
-use Rattle.sheet_spec.proofs.LinesSettled.{insBelow}
-use Rattle.sheet_spec.proofs.OrderHeights.{ins-input, ins-output, outs-input, outs-output, ins-below, outs-below}
+use Rattle.sheet_spec.proofs.Promises.{order-length, ins-rise, outs-rise, insBelow, ins-input, ins-output, outs-input, outs-output, ins-below, outs-below}
 use Rattle.reduction_spec.specs.Columns.{entry, layers}
 use Rattle.reduction_spec.specs.Diagram.{topValue, nodes}
 use Rattle.reduction_spec.specs.Walk.{lowOf, highOf}

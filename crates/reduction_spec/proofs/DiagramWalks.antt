@@ -20,10 +20,7 @@ use Rattle.sheet_spec.specs.Table.{table}
 use Rattle.sheet_spec.specs.Characteristic.{chi}
 use Rattle.sheet_spec.specs.Accepted.{Accepted}
 use Rattle.sheet_spec.specs.Refusals.{notEachOnce, sheetRefusal}
-use Rattle.sheet_spec.proofs.Tables.{table-below}
-use Rattle.sheet_spec.proofs.LeastRefusal.{job-accepted}
-use Rattle.sheet_spec.proofs.LinesSettled.{insBelow}
-use Rattle.sheet_spec.proofs.OrderHeights.{ins-input, ins-output, ins-below}
+use Rattle.sheet_spec.proofs.Promises.{table-below, job-accepted, insBelow, ins-input, ins-output, ins-below}
 use Rattle.reduction_spec.specs.Columns.{layers}
 use Rattle.reduction_spec.specs.Merge.{reduced}
 use Rattle.reduction_spec.specs.Diagram.{Node, topValue, nodes, nodeWords}

@@ -17,7 +17,7 @@ use Rattle.laws.proofs.Lists.{length-tab, tab-of}
 use Rattle.laws.proofs.Powers.{place-below}
 use Rattle.sheet_spec.specs.Job.{Job, t, ins, outs, varAt, isInput}
 use Rattle.sheet_spec.specs.Refusals.{notEachOnce}
-use Rattle.sheet_spec.proofs.OrderHeights.{ins-input, ins-output, outs-output, ins-below, outs-below}
+use Rattle.sheet_spec.proofs.Promises.{ins-input, ins-output, outs-output, ins-below, outs-below}
 use Rattle.reduction_spec.specs.Columns.{entry, numberIn, firsts, firstsAt, numberAt, width, layers, layer, widthIn}
 use Rattle.reduction_spec.specs.Merge.{merged, reduced}
 use Rattle.reduction_spec.specs.Diagram.{Node, node, nodesAbove, nodeOf, inputNode, outputNode, topValue, nodeAt, nodesTo, nodes}

@@ -17,7 +17,7 @@ use Rattle.laws.proofs.Puts.{puts-ext, puts-sets}
 use Rattle.sheet_spec.specs.Job.{Job, t}
 use Rattle.sheet_spec.specs.Refusals.{sheetRefusal}
 use Rattle.sheet_spec.specs.Table.{table}
-use Rattle.sheet_spec.proofs.LeastRefusal.{job-accepted}
+use Rattle.sheet_spec.proofs.Promises.{job-accepted}
 use Rattle.reduction_spec.specs.Columns.{width}
 use Rattle.reduction_spec.specs.Merge.{refuse7}
 use Rattle.reduction_spec.specs.Diagram.{nodeWords}

@@ -1,4 +1,4 @@
--- Laws of the definitions; other crates may cite those that are `pub`.
+-- Laws of the definitions. The crates of the layer may cite those that are `pub`, the layers above those of Promises alone.
 pub mod AcceptedSheet
 pub mod AllMerges
 pub mod ChiLines
@@ -24,6 +24,7 @@ pub mod NodeWords
 pub mod Numbering
 pub mod OneMerge
 pub mod OneRound
+pub mod Promises
 pub mod ReductionCases
 pub mod SameLinksSameCover
 pub mod VariableBits

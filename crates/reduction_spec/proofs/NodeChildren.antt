@@ -17,8 +17,7 @@ use Rattle.laws.proofs.Cases.{by-less, cond-yes, cond-no, cond-both}
 use Rattle.laws.proofs.Lists.{length-tab, getD-tab}
 use Rattle.sheet_spec.specs.Job.{Job, t, ins, outs, varAt, isInput}
 use Rattle.sheet_spec.specs.Refusals.{notEachOnce}
-use Rattle.sheet_spec.proofs.LinesSettled.{insBelow, insBelow-at}
-use Rattle.sheet_spec.proofs.OrderHeights.{ins-input, ins-output, outs-input, outs-output, ins-below, outs-below, output-number}
+use Rattle.sheet_spec.proofs.Promises.{insBelow, insBelow-at, ins-input, ins-output, outs-input, outs-output, ins-below, outs-below, output-number}
 use Rattle.reduction_spec.specs.Columns.{entry, same, firsts, numberIn, firstsAt, numberAt, width, layers, layer, widthIn}
 use Rattle.reduction_spec.specs.Diagram.{Node, node, nodesAbove, nodeOf, inputNode, outputNode, topValue, nodeAt, nodesTo, nodes, nodeWords}
 use Rattle.reduction_spec.specs.Walk.{lowIn, highIn, lowOf, highOf}

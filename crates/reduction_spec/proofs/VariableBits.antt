@@ -16,8 +16,7 @@ use Rattle.laws.proofs.Powers.{sum-bit}
 use Rattle.laws.proofs.PickedBits.{pickedBits, pickedBits-lt, pickedBits-at}
 use Rattle.sheet_spec.specs.Job.{Job, t, ins, varAt, isInput, outputByte}
 use Rattle.sheet_spec.specs.Refusals.{notEachOnce}
-use Rattle.sheet_spec.proofs.Orders.{ins-all}
-use Rattle.sheet_spec.proofs.OrderHeights.{output-low, output-one}
+use Rattle.sheet_spec.proofs.Promises.{ins-all, output-low, output-one}
 use Rattle.reduction_spec.specs.Cofactors.{inputsIn, outputsIn}
 
 -- bits holds, at the heights of the inputs, the inputs that are the number x read down the order

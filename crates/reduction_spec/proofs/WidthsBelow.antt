@@ -10,7 +10,7 @@ use Rattle.laws.proofs.Cases.{by-test, by-less}
 use Rattle.laws.proofs.Masks.{not-both}
 use Rattle.sheet_spec.specs.Job.{Job, t, ins, outs, varAt, isInput}
 use Rattle.sheet_spec.specs.Refusals.{notEachOnce}
-use Rattle.sheet_spec.proofs.OrderHeights.{ins-input, ins-output, outs-input, outs-output, ins-below}
+use Rattle.sheet_spec.proofs.Promises.{ins-input, ins-output, outs-input, outs-output, ins-below}
 use Rattle.reduction_spec.specs.Columns.{same, firsts, firstsAt, width}
 use Rattle.reduction_spec.proofs.ColumnNumbers.{same-sym, first-below, firsts-rise, first-smallest}
 use Rattle.reduction_spec.proofs.ColumnsBelow.{Names, output-names, input-names}

@@ -12,8 +12,7 @@ use Rattle.bank_spec.specs.State.{State, fresh, formed, bankFormed, limitRefuse
 use Rattle.bank_spec.specs.Calls.{Answer, refused, After, numbered, admitRefusal, admit, latch, step}
 use Rattle.bank_spec.specs.Book.{newBook}
 use Rattle.bank_spec.specs.CallLists.{Call, admission, latching, stepping, call, Entry, outputsHeld, outputsInBook}
-use Rattle.bank_spec.proofs.Related.{Related, same-outputs}
-use Rattle.bank_spec.proofs.AsBook.{call-same, fresh-related}
+use Rattle.bank_spec.proofs.Promises.{Related, same-outputs, call-same, fresh-related}
 use Rattle.replay.specs.Coded.{Coded, making, calling}
 use Rattle.replay.specs.Entries.{Kept, noBank, inBook, bookEntries, onBank, bankAfter}
 

@@ -16,14 +16,13 @@ use Rattle.laws.specs.Tests.{within}
 use Rattle.laws.specs.Lists.{written}
 use Rattle.laws.proofs.Cases.{either, no-test}
 use Rattle.stored_spec.specs.StoredForm.{wellFormed}
-use Rattle.stored_spec.proofs.StoredParts.{records-have}
-use Rattle.stored_spec.proofs.ReadWriteCases.{formed-records, row-bytes}
+use Rattle.stored_spec.proofs.Promises.{records-have, formed-records, row-bytes}
 use Rattle.bank_spec.specs.State.{State, fresh, formed, limitRefused}
 use Rattle.bank_spec.specs.Calls.{accepted, refused, numbered, admitRefusal, admit}
 use Rattle.bank_spec.specs.Book.{Book, newBook}
 use Rattle.bank_spec.specs.CallLists.{Call, admission, call, bookCall, stateAfter, Entry, outputsInBook, trace, bookTrace}
 use Rattle.bank_spec.specs.Demand3.{Demand3}
-use Rattle.bank_spec.proofs.Demand3.{demand3}
+use Rattle.bank_spec.proofs.Promises.{demand3}
 use Rattle.replay.specs.Coded.{Coded, making, calling, codesOf, allFit}
 use Rattle.replay.specs.Entries.{noBank, inBook, bookEntries, onBank, bankAfter, traceBytes}
 use Rattle.replay.specs.Replay.{replay}

@@ -1,4 +1,4 @@
--- Laws of the definitions; other crates may cite those that are `pub`.
+-- Laws of the definitions. The crates of the layer may cite those that are `pub`, the layers above those of Promises alone.
 pub mod Chi
 mod Clashes
 mod Examples
@@ -7,6 +7,7 @@ pub mod LinesSettled
 pub mod OrderHeights
 pub mod OrderRule
 pub mod Orders
+pub mod Promises
 pub mod RecordFields
 pub mod Tables
 pub mod Words

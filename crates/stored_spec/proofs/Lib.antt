@@ -1,5 +1,6 @@
--- Laws of the definitions; other crates may cite those that are `pub`.
+-- Laws of the definitions. The crates of the layer may cite those that are `pub`, the layers above those of Promises alone.
 pub mod CellSizes
+pub mod Promises
 pub mod Rails
 pub mod ReadWriteCases
 pub mod RecordBytes

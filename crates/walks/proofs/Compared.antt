@@ -17,9 +17,7 @@ use Rattle.sheet_spec.specs.Job.{Job, t, isInput, varAt, ins, outs}
 use Rattle.sheet_spec.specs.Table.{table}
 use Rattle.sheet_spec.specs.Accepted.{Accepted}
 use Rattle.sheet_spec.specs.Refusals.{notEachOnce, sheetRefusal}
-use Rattle.sheet_spec.proofs.LeastRefusal.{job-accepted}
-use Rattle.sheet_spec.proofs.LinesSettled.{insBelow}
-use Rattle.sheet_spec.proofs.OrderHeights.{ins-input, ins-output, outs-input, outs-output, ins-below}
+use Rattle.sheet_spec.proofs.Promises.{job-accepted, insBelow, ins-input, ins-output, outs-input, outs-output, ins-below}
 use Rattle.reduction_spec.specs.Columns.{entry, same, layers}
 use Rattle.reduction_spec.specs.Compatible.{opposite, compatible}
 use Rattle.reduction_spec.specs.Diagram.{topValue, nodes, nodeOf}

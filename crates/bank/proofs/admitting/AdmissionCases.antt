@@ -14,8 +14,8 @@ use Rattle.laws.proofs.Cases.{cond-yes, cond-no, and-split, or-split}
 use Rattle.laws.proofs.Puts.{copied-at}
 use Rattle.stored_spec.specs.StoredForm.{wellFormed, recordsFormed, rowsFormed, recordCount, cellCount, rowCount}
 use Rattle.stored.specs.Reads.{rowsCounted}
-use Rattle.stored_spec.proofs.StoredParts.{records-have}
-use Rattle.stored.proofs.CellReads.{cells-all, cells-few, formed-fit, rows-counted}
+use Rattle.stored_spec.proofs.Promises.{records-have}
+use Rattle.stored.proofs.Promises.{cells-all, cells-few, formed-fit, rows-counted}
 use Rattle.bank_spec.specs.State.{State, cellsBefore, rowsBefore, cellsHeld, rowsHeld, bankFormed, scanFormed, formed, atRest, emptyBank, limitRefused, stateOf}
 use Rattle.bank_spec.specs.declared.Bank.{Bank}
 use Rattle.bank_spec.specs.declared.Scan.{Scan}

@@ -16,8 +16,8 @@ use Rattle.laws.proofs.Counts.{sum-next}
 use Rattle.stored_spec.specs.StoredForm.{recordsFormed, recordCount, cellCount, cellAt, rowCount}
 use Rattle.stored.specs.Reads.{rowsCounted, cellRails}
 use Rattle.stored.specs.declared.CellRails.{CellRails}
-use Rattle.stored_spec.proofs.StoredParts.{records-have}
-use Rattle.stored.proofs.CellReads.{cells-all, cells-few, formed-fit, rows-counted, rowsTold, rails-told, few-rails, some-rails}
+use Rattle.stored_spec.proofs.Promises.{records-have}
+use Rattle.stored.proofs.Promises.{cells-all, cells-few, formed-fit, rows-counted, rowsTold, rails-told, few-rails, some-rails}
 use Rattle.bank_spec.specs.declared.Bank.{Bank}
 use Rattle.bank_spec.specs.declared.Scan.{Scan}
 use Rattle.bank_spec.specs.State.{recordsOf, blockFormed, cellsBefore, rowsBefore, cellsHeld, rowsHeld, bankFormed, scanFormed}

@@ -17,7 +17,7 @@ use Rattle.stored_spec.specs.StoredForm.{cellCount, cellAt, rowCount}
 use Rattle.stored_spec.specs.Run.{rowPlace, outputsAfter}
 use Rattle.stored.specs.Reads.{hasCell, cellRails, rowRead, outputsRead}
 use Rattle.stored.specs.declared.CellRails.{CellRails}
-use Rattle.stored.proofs.CellReads.{rowsTold, rails-told, rows-told, few-outs, some-rails, some-row, some-outputs}
+use Rattle.stored.proofs.Promises.{rowsTold, rails-told, rows-told, few-outs, some-rails, some-row, some-outputs}
 use Rattle.bank_spec.specs.declared.Bank.{Bank}
 use Rattle.bank_spec.specs.declared.Scan.{Scan}
 use Rattle.bank_spec.specs.State.{recordsOf, rowsBefore, rowsHeld, blockFormed, bankFormed, scanFormed, formed}

@@ -20,7 +20,7 @@ use Rattle.laws.proofs.Parts.{puts-part}
 use Rattle.sheet_spec.specs.Job.{isInput}
 use Rattle.reduction_spec.specs.Walk.{lowOf, highOf, child}
 use Rattle.reduction_spec.specs.Descent.{descend, descent}
-use Rattle.reduction_spec.proofs.DescentSteps.{met-more, met-twice, descend-bottom, descend-stop, descend-input, descend-forced, descend-other}
+use Rattle.reduction_spec.proofs.Promises.{met-more, met-twice, descend-bottom, descend-stop, descend-input, descend-forced, descend-other}
 use Rattle.cutting.specs.RowWalks.{rowFrom, nodeRow}
 
 -- a block of 2^count rows from x on, a multiple of 2^count, and its halves

@@ -19,21 +19,15 @@ use Rattle.laws.proofs.Powers.{sum-small, sum-moved, place-below}
 use Rattle.sheet_spec.specs.Job.{Job, t, ins, outs}
 use Rattle.sheet_spec.specs.Refusals.{sheetRefusal}
 use Rattle.sheet_spec.specs.Table.{table}
-use Rattle.sheet_spec.proofs.Orders.{ins-rise}
-use Rattle.sheet_spec.proofs.LeastRefusal.{job-accepted}
-use Rattle.sheet_spec.proofs.OrderHeights.{ins-below}
+use Rattle.sheet_spec.proofs.Promises.{ins-rise, job-accepted, ins-below}
 use Rattle.reduction_spec.specs.Columns.{entry, layers, layer, widthIn}
 use Rattle.reduction_spec.specs.Merge.{reduced, refuse7}
 use Rattle.reduction_spec.specs.Diagram.{nodesAbove}
 use Rattle.reduction_spec.specs.declared.Reached.{Reached}
 use Rattle.reduction_spec.specs.Descent.{reached, descent}
-use Rattle.reduction_spec.proofs.ColumnNumbers.{first-below, number-below, number-first}
-use Rattle.reduction_spec.proofs.AllMerges.{width-bottom}
-use Rattle.reduction_spec.proofs.AcceptedSheet.{reduced-ruled, nodes-fit, width-layer}
-use Rattle.reduction_spec.proofs.NodeChildren.{wordsOf, nodeFor, numberFor, layer-at, number-is, node-of, node-bottom}
-use Rattle.reduction_spec.proofs.DescentReaches.{met, descent-is}
+use Rattle.reduction_spec.proofs.Promises.{first-below, number-below, number-first, width-bottom, reduced-ruled, nodes-fit, width-layer, wordsOf, nodeFor, numberFor, layer-at, number-is, node-of, node-bottom, met, descent-is}
 use Rattle.stored_spec.specs.Rails.{rails, railsAt}
-use Rattle.stored_spec.proofs.Rails.{rails-enough}
+use Rattle.stored_spec.proofs.Promises.{rails-enough}
 use Rattle.cutting_spec.specs.Cuts.{cellOutputs}
 use Rattle.cutting_spec.specs.Rows.{emitted, rowOf, row}
 use Rattle.cutting.specs.RowWalks.{firstAt, rowFrom, nodeRow, walkedRow}

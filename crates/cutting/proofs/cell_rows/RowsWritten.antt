@@ -21,7 +21,7 @@ use Rattle.laws.proofs.Puts.{puts-sets, putsAt-sets, putsAt-ext, getD-unput}
 use Rattle.sheet_spec.specs.Job.{Job, t, ins, isInput}
 use Rattle.sheet_spec.specs.Refusals.{sheetRefusal}
 use Rattle.sheet_spec.specs.Table.{table}
-use Rattle.sheet_spec.proofs.LeastRefusal.{job-accepted}
+use Rattle.sheet_spec.proofs.Promises.{job-accepted}
 use Rattle.reduction_spec.specs.Columns.{width, layers, widthIn}
 use Rattle.reduction_spec.specs.Merge.{reduced, refuse7}
 use Rattle.reduction_spec.specs.Diagram.{nodesAbove, nodes}
@@ -29,13 +29,9 @@ use Rattle.reduction_spec.specs.Walk.{lowOf, highOf}
 use Rattle.reduction_spec.specs.declared.Reached.{Reached}
 use Rattle.reduction_spec.specs.Descent.{reached, descend, descent}
 use Rattle.reduction_spec.specs.Reduction.{reductionRefusal, finalTable, finalNodes, wordsAfter}
-use Rattle.reduction_spec.proofs.NodeWords.{length-nodeWords}
-use Rattle.reduction_spec.proofs.AllMerges.{width-top}
-use Rattle.reduction_spec.proofs.AcceptedSheet.{nodes-fit, width-layer}
-use Rattle.reduction_spec.proofs.ReductionCases.{not-refused}
-use Rattle.reduction_spec.proofs.NodeChildren.{wordsOf, nodes-room}
+use Rattle.reduction_spec.proofs.Promises.{length-nodeWords, width-top, nodes-fit, width-layer, not-refused, wordsOf, nodes-room}
 use Rattle.stored_spec.specs.Rails.{rails, railsAt}
-use Rattle.stored_spec.proofs.Rails.{rails-enough}
+use Rattle.stored_spec.proofs.Promises.{rails-enough}
 use Rattle.cutting_spec.specs.Cuts.{cellInputs, cellOutputs}
 use Rattle.cutting_spec.specs.Rows.{row, cellRows}
 use Rattle.cutting.specs.RowWalks.{firstAt, rowFrom, nodeRow, walkedRow}

@@ -16,7 +16,7 @@ use Rattle.sheet_spec.specs.Limits.{largestInputs, largestOutputs}
 use Rattle.stored_spec.specs.declared.Cell.{Cell}
 use Rattle.stored_spec.specs.Cells.{fits, bits}
 use Rattle.cutting.specs.Ways.{Way, noWay, bottomWay, fewer, through, goes, withCutAt, wayBelow, ways, wayFrom}
-use Rattle.stored_spec.proofs.CellSizes.{fits-largest, usable-bits, bits-small}
+use Rattle.stored_spec.proofs.Promises.{fits-largest, usable-bits, bits-small}
 use Rattle.cutting_spec.proofs.Better.{first, first-same, first-more, first-yes, first-no}
 
 -- u = (a, c) comes before v = (b, d), and (e, f) not before v: then not before u

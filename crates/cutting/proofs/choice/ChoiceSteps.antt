@@ -11,7 +11,7 @@ use Rattle.sheet_spec.specs.Limits.{largestInputs, largestOutputs}
 use Rattle.stored_spec.specs.declared.Cell.{Cell}
 use Rattle.stored_spec.specs.Cells.{fits, usableBits}
 use Rattle.cutting.specs.Ways.{Way, fewer, through, goes, withCutAt, wayBelow, listCell, listWay, cutsFrom, bitsFrom}
-use Rattle.stored_spec.proofs.CellSizes.{fits-largest, usable-bits}
+use Rattle.stored_spec.proofs.Promises.{fits-largest, usable-bits}
 use Rattle.cutting.proofs.choice.BestWays.{way-next, way-bottom, way-small}
 
 -- the better of two ways

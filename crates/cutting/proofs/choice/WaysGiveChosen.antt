@@ -17,7 +17,7 @@ use Rattle.cutting_spec.specs.Cuts.{CutList, bottom, next, cutLists, cellInputs
 use Rattle.stored_spec.specs.Rails.{railsAt}
 use Rattle.cutting_spec.specs.Choice.{longer, admissible, better, isNone, best, chosen, refuse8}
 use Rattle.cutting.specs.Ways.{Way, noWay, through, goes, falling, jobWay, listCell, listWay}
-use Rattle.sheet_spec.proofs.Orders.{ins-outs}
+use Rattle.sheet_spec.proofs.Promises.{ins-outs}
 use Rattle.cutting_spec.proofs.RowLimit.{cells-next, admissible-fits}
 use Rattle.cutting_spec.proofs.CutLists.{member-of, of-falls}
 use Rattle.cutting_spec.proofs.Better.{first, first-less, first-same, first-more, first-no, cellsIn, bitsIn, better-is, better-itself, better-total, longer-next, best-of}

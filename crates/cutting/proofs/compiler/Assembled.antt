@@ -16,16 +16,13 @@ use Rattle.laws.proofs.Puts.{puts-ext, copied}
 use Rattle.sheet_spec.specs.Job.{Job, t, ins}
 use Rattle.sheet_spec.specs.Refusals.{sheetRefusal}
 use Rattle.sheet_spec.specs.Table.{table}
-use Rattle.sheet_spec.proofs.RecordFields.{order-length}
-use Rattle.sheet_spec.proofs.LeastRefusal.{job-accepted}
+use Rattle.sheet_spec.proofs.Promises.{order-length, job-accepted}
 use Rattle.reduction_spec.specs.Columns.{layers, widthIn}
 use Rattle.reduction_spec.specs.Merge.{reduced, refuse7}
 use Rattle.reduction_spec.specs.Diagram.{nodes, nodeWords}
 use Rattle.reduction_spec.specs.declared.Reduction.{Reduction}
 use Rattle.reduction_spec.specs.Reduction.{reductionRefusal, finalNodes, finalTable, reduction, widthsAfter, wordsAfter}
-use Rattle.reduction_spec.proofs.NodeWords.{length-nodeWords}
-use Rattle.reduction_spec.proofs.NodeChildren.{wordsOf}
-use Rattle.reduction_spec.proofs.LentAfter.{refusal-is, accepted, narrow, nodes-few, node-count, few-variables}
+use Rattle.reduction_spec.proofs.Promises.{length-nodeWords, wordsOf, refusal-is, accepted, narrow, nodes-few, node-count, few-variables}
 use Rattle.stored_spec.specs.Cells.{allFit}
 use Rattle.cutting_spec.specs.Cuts.{CutList, cellsOf}
 use Rattle.stored_spec.specs.Rails.{railsAt}

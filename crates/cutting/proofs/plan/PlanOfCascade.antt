@@ -19,15 +19,12 @@ use Rattle.laws.proofs.Puts.{stored}
 use Rattle.sheet_spec.specs.Job.{Job, t, ins, outs}
 use Rattle.sheet_spec.specs.Refusals.{sheetRefusal}
 use Rattle.sheet_spec.specs.Table.{table}
-use Rattle.sheet_spec.proofs.LeastRefusal.{job-accepted}
+use Rattle.sheet_spec.proofs.Promises.{job-accepted}
 use Rattle.reduction_spec.specs.Columns.{firstsAt, width, layers, widthIn}
 use Rattle.reduction_spec.specs.Merge.{reduced, refuse7}
 use Rattle.reduction_spec.specs.Diagram.{nodesAbove}
 use Rattle.reduction_spec.specs.Reduction.{reductionRefusal, finalTable, finalWidths, widthsAfter}
-use Rattle.reduction_spec.proofs.ColumnNumbers.{width-few}
-use Rattle.reduction_spec.proofs.AllMerges.{width-bottom, width-top, width-fits}
-use Rattle.reduction_spec.proofs.AcceptedSheet.{width-layer}
-use Rattle.reduction_spec.proofs.ReductionCases.{not-refused}
+use Rattle.reduction_spec.proofs.Promises.{width-few, width-bottom, width-top, width-fits, width-layer, not-refused}
 use Rattle.stored_spec.specs.Rails.{rails, railsAt}
 use Rattle.cutting_spec.specs.Choice.{refuse8}
 use Rattle.cutting.specs.Ways.{Way, falling, jobWay, listCell, listWay, nextFrom}

@@ -22,8 +22,7 @@ use Rattle.stored_spec.specs.Cells.{usableRows}
 use Rattle.stored_spec.specs.Rails.{rails}
 use Rattle.cutting.specs.Ways.{listCell, listWay, cutsFrom, bitsFrom, nextFrom}
 use Rattle.cutting.specs.Plan.{inputsIn, railsIn, cutIn, rowsOf, rowsTo, bytes21, planned}
-use Rattle.stored_spec.proofs.CellSizes.{rows-small}
-use Rattle.stored_spec.proofs.Rails.{rails-enough, rails-least}
+use Rattle.stored_spec.proofs.Promises.{rows-small, rails-enough, rails-least}
 use Rattle.cutting.proofs.choice.BestWays.{way-falls}
 use Rattle.cutting.proofs.choice.ChoiceSteps.{ways-small}
 

@@ -18,7 +18,7 @@ use Rattle.sheet_spec.specs.Refusals.{sheetRefusal}
 use Rattle.sheet_spec.specs.Table.{table}
 use Rattle.reduction_spec.specs.Columns.{layers, widthIn}
 use Rattle.reduction_spec.specs.Merge.{reduced, refuse7}
-use Rattle.reduction_spec.proofs.NodeChildren.{wordsOf}
+use Rattle.reduction_spec.proofs.Promises.{wordsOf}
 use Rattle.stored_spec.specs.Cells.{fits, allFit, rows, usableRows}
 use Rattle.cutting_spec.specs.Cuts.{CutList, cellInputs, cellOutputs, cellBetween, cellsOf}
 use Rattle.stored_spec.specs.Rails.{railsAt}
@@ -29,7 +29,7 @@ use Rattle.cutting_spec.specs.Compile.{widthsOf}
 use Rattle.cutting.specs.Plan.{widthUp, firstIn, rowsOf, rowsTo, rowBetween, Writable, rowsStored}
 use Rattle.cutting_spec.proofs.StoredCuts.{cuts-fall, cuts-most}
 use Rattle.cutting_spec.proofs.RailCounts.{width-at}
-use Rattle.stored_spec.proofs.CellSizes.{few-inputs, few-outputs, usable-rows}
+use Rattle.stored_spec.proofs.Promises.{few-inputs, few-outputs, usable-rows}
 use Rattle.cutting.proofs.cell_rows.RowsWritten.{upper-fit, columns-fit, nodes-within, stored-byte, rows-written}
 use Rattle.cutting_spec.proofs.StoredWell.{fit-at}
 use Rattle.cutting.proofs.choice.WaysGiveChosen.{cell-same}

@@ -22,9 +22,7 @@ use Rattle.sheet_spec.specs.Job.{Job, t, ins, outs}
 use Rattle.sheet_spec.specs.Refusals.{sheetRefusal}
 use Rattle.sheet_spec.specs.Table.{table, tableAfter}
 use Rattle.sheet_spec.specs.Accepted.{Accepted}
-use Rattle.sheet_spec.proofs.Orders.{ins-all, outs-all}
-use Rattle.sheet_spec.proofs.LeastRefusal.{job-accepted}
-use Rattle.sheet_spec.proofs.Tables.{table-length, table-below}
+use Rattle.sheet_spec.proofs.Promises.{ins-all, outs-all, job-accepted, table-length, table-below}
 use Rattle.reduction_spec.specs.Columns.{entry, firsts, firstsAt, width}
 use Rattle.reduction_spec.specs.Merge.{merged, tooWide, refuse7}
 use Rattle.reduction_spec.specs.declared.Node.{Node}

@@ -19,8 +19,7 @@ use Rattle.laws.proofs.Lists.{tab-ext}
 use Rattle.laws.proofs.Puts.{sets-append, length-puts}
 use Rattle.sheet_spec.specs.Job.{Job, t, ins, outs, varAt, isInput}
 use Rattle.sheet_spec.specs.Refusals.{notEachOnce}
-use Rattle.sheet_spec.proofs.Orders.{ins-rise}
-use Rattle.sheet_spec.proofs.OrderHeights.{ins-input, ins-output, outs-input, outs-output, ins-below, outs-below}
+use Rattle.sheet_spec.proofs.Promises.{ins-rise, ins-input, ins-output, outs-input, outs-output, ins-below, outs-below}
 use Rattle.reduction_spec.specs.Columns.{entry, firsts, firstsAt, numberAt, width, layers, widthIn}
 use Rattle.reduction_spec.specs.Merge.{mergeAt, merged, reduced, tooWide}
 use Rattle.reduction_spec.specs.declared.Node.{Node}

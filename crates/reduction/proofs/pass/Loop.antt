@@ -16,10 +16,7 @@ use Rattle.sheet_spec.specs.Job.{Job, t, ins, outs, varAt, isInput}
 use Rattle.sheet_spec.specs.Refusals.{sheetRefusal}
 use Rattle.sheet_spec.specs.Table.{table, tableAfter}
 use Rattle.sheet_spec.specs.Accepted.{Accepted}
-use Rattle.sheet_spec.proofs.LeastRefusal.{job-accepted}
-use Rattle.sheet_spec.proofs.RecordFields.{order-length}
-use Rattle.sheet_spec.proofs.Orders.{ins-outs}
-use Rattle.sheet_spec.proofs.OrderHeights.{ins-input, ins-output, ins-below, outs-below}
+use Rattle.sheet_spec.proofs.Promises.{job-accepted, order-length, ins-outs, ins-input, ins-output, ins-below, outs-below}
 use Rattle.reduction_spec.specs.Columns.{width}
 use Rattle.reduction_spec.specs.Merge.{refuse7}
 use Rattle.reduction_spec.specs.Diagram.{nodeWords}

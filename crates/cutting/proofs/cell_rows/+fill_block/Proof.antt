@@ -7,7 +7,7 @@ use denote.Ref.{now}
 use lib.ListN.{length}
 use lib.Pow.{pow-pos}
 use Rattle.laws.proofs.Puts.{length-putsAt}
-use Rattle.reduction_spec.proofs.DescentSteps.{met-still, met-few}
+use Rattle.reduction_spec.proofs.Promises.{met-still, met-few}
 use Rattle.cutting.proofs.cell_rows.BlockRows.{going-on, half-twice, whole-low, whole-high, met-next, rowsFrom, ended-row, ended-block, single-row, single-block, led-small, led-block, first-small, second-small, split-block}
 use borrow.Author.Needs.{needs}
 use borrow.Fn.Kinds.{In}

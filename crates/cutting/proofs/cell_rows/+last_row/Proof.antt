@@ -5,7 +5,7 @@ use Prim.Native.Nat.{ℕ, _+_, _-_, _<_}
 use native.Mathlib.Omega.{arith}
 use denote.Ref.{now}
 use Rattle.reduction_spec.specs.Descent.{descend}
-use Rattle.reduction_spec.proofs.DescentSteps.{met-still, met-few}
+use Rattle.reduction_spec.proofs.Promises.{met-still, met-few}
 use Rattle.cutting.specs.RowWalks.{rowFrom}
 use Rattle.cutting.proofs.cell_rows.BlockRows.{going-on, ended-row, input-row, output-row, met-next}
 use borrow.Author.Needs.{needs}

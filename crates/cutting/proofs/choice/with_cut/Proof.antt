@@ -2,7 +2,7 @@
 -- Assumes nothing.
 use mathlib.Core.Path.{sym, _∙_}
 use native.Mathlib.Omega.{arith}
-use Rattle.stored_spec.proofs.CellSizes.{bits-small}
+use Rattle.stored_spec.proofs.Promises.{bits-small}
 use Rattle.cutting.proofs.choice.ChoiceSteps.{stay-large, stay-none, go-through}
 use borrow.Author.Needs.{needs}
 use Rattle.cutting.proofs.choice.with_cut.Statement.{statement}

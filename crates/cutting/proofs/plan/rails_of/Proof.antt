@@ -4,7 +4,7 @@ use Prim.Native.Nat.{_≤_, _-_, _^_}
 use mathlib.Core.Path.{_≡_, refl}
 use native.Mathlib.Omega.{arith}
 use Rattle.stored_spec.specs.Rails.{rails}
-use Rattle.stored_spec.proofs.Rails.{rails-least}
+use Rattle.stored_spec.proofs.Promises.{rails-least}
 use Rattle.cutting.proofs.plan.PlanSteps.{rails-more, rails-few, twice-power}
 use borrow.Author.Needs.{needs}
 use Rattle.cutting.proofs.plan.rails_of.Statement.{statement}

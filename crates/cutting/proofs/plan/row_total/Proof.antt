@@ -4,7 +4,7 @@ use Prim.Native.Nat.{_≤_, _+_, _-_}
 use mathlib.Core.Path.{_≡_, _∙_, ap}
 use denote.Ref.{now}
 use native.Mathlib.Omega.{arith}
-use Rattle.stored_spec.proofs.CellSizes.{rows-small}
+use Rattle.stored_spec.proofs.Promises.{rows-small}
 use Rattle.cutting.specs.Plan.{rowsTo}
 use Rattle.cutting.proofs.plan.PlanSteps.{rows-start, rows-step, rows-most}
 use borrow.Author.Needs.{needs}

@@ -5,7 +5,7 @@ use mathlib.Core.List.{List}
 use Prim.Native.Nat.{ℕ}
 use Rattle.laws.specs.Lists.{puts}
 use Rattle.sheet_spec.specs.Table.{Tabled}
-use Rattle.sheet_spec.proofs.LeastRefusal.{sheet-accepted}
+use Rattle.sheet_spec.proofs.Promises.{sheet-accepted}
 use Rattle.reduction.specs.Packed.{packedWord, placesWith}
 use borrow.Author.Needs.{needs}
 use Rattle.reduction.proofs.pass.planes.Statement.{statement}

@@ -1,0 +1,13 @@
+-- What the layers above may cite of the bank layer: the laws that say what its contracts' definitions mean. Each is proved in the file named.
+-- Assumes nothing.
+
+-- a bank and a book that agree
+pub use Rattle.bank_spec.proofs.Related.{Related, same-outputs}
+-- and do so after every call
+pub use Rattle.bank_spec.proofs.AsBook.{fresh-related, call-same}
+-- the lists of a state keep their lengths
+pub use Rattle.bank_spec.proofs.StateSizes.{Sized, call-sized}
+-- what the compiler writes is a compiled block
+pub use Rattle.bank_spec.proofs.CompiledAs.{as-compiled}
+-- demand 3
+pub use Rattle.bank_spec.proofs.Demand3.{demand3}
