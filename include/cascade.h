@@ -87,7 +87,9 @@ cascade_reduction cascade_reduce(size_t n, size_t m, size_t k, size_t l,
                                  uint16_t words[CASCADE_NODE_WORDS]);
 
 /* Walks over the diagram. words are CASCADE_NODE_WORDS words as cascade_reduce and cascade_compile write them. A node is
- * its number: 0 and 1 are the constants, 2 is the first node, and a number over 10,241 has the children 0. */
+ * its number: 0 and 1 are the constants, 2 is the first node, and a number over 10,241 has the children 0. Stack:
+ * CASCADE_WALK_STACK bytes are enough for each of the four. */
+#define CASCADE_WALK_STACK 8192
 
 /* Where a walk from node at height ends: it goes from a node to a child, one height down, until height 0 or a constant.
  * Bit h - 1 of bits is the value of the variable at height h, input or output; for heights over 32 it is 0. */

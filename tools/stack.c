@@ -58,10 +58,39 @@ static void *step(void *unused)
     return unused;
 }
 
+static void *tabulate(void *unused)
+{
+    static uint8_t table[CASCADE_TABLE_BYTES];
+    refusal = cascade_sheet_table(input[0], input[1], input[2], input[3], order(), variables(), sheet(), sheet_length(), table);
+    return unused;
+}
+
 static void *reduce(void *unused)
 {
     refusal = cascade_reduce(input[0], input[1], input[2], input[3], order(), variables(), sheet(), sheet_length(), widths, nodes)
                   .refusal;
+    return unused;
+}
+
+/* Words of no diagram, in which every walk goes all heights down: the children of node 2 are node 2, those of every other node 3. */
+static uint16_t loops[CASCADE_NODE_WORDS];
+
+static void *walk(void *unused)
+{
+    refusal = cascade_walk(loops, 0, 255, 2);
+    return unused;
+}
+
+static void *compare(void *unused)
+{
+    refusal = cascade_same_columns(loops, 20, 2, 3) + cascade_compatible_columns(loops, 20, 2, 3);
+    return unused;
+}
+
+static void *descend(void *unused)
+{
+    static const uint8_t inputs[20];
+    refusal = cascade_descent(loops, inputs, sizeof inputs, 20, 0, 2, 0, 20).node;
     return unused;
 }
 
@@ -91,9 +120,17 @@ int main(void)
         return 2;
     }
     size_t least = used_by(nothing);
+    printf("cascade_sheet_table %zu\n", used_by(tabulate) - least);
     printf("cascade_reduce %zu\n", used_by(reduce) - least);
     printf("cascade_compile %zu\n", used_by(compile) - least);
     printf("refusal %u\n", refusal);
+    unsigned made = refusal;
+    for (size_t i = 0; i < CASCADE_NODE_WORDS; i++)
+        loops[i] = i < 3 ? 2 : 3;
+    printf("cascade_walk %zu\n", used_by(walk) - least);
+    printf("cascade_same_columns, cascade_compatible_columns %zu\n", used_by(compare) - least);
+    printf("cascade_descent %zu\n", used_by(descend) - least);
+    refusal = made;
     if (refusal != 0 || cascade_bank_new(255, bank, scan) != 0)
         return 0;
     printf("cascade_admit %zu\n", used_by(admit) - least);
