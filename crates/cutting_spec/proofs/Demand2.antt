@@ -158,24 +158,8 @@ module _ (j : Job) (ws : List ℕ) where
       let b = best-list e in
       better-total j ws (b .0) c (best (chosen j ws) (b .0) (b .1)) (b .2 l c a)
 
--- an accepted job
-module _ (j : Job) (s : List ℕ) (e : sheetRefusal j s ≡ 0) (kept : refuse8 j (made j (table j s) .widths) ≡ false) where
-  -- what is written is well formed
-  pub made-stored : wellFormed (made j (table j s) .records) (made j (table j s) .rows) ≡ true
-  made-stored = made-formed j s e kept
-
-  -- it can be read, and writing what was read gives the same bytes
-  pub made-read : (records rows : List ℕ) → length (made j (table j s) .records) ≤ length records → length (made j (table j s) .rows) ≤ length rows
-      → (read (made j (table j s) .records) (made j (table j s) .rows) ≡ wasRead (cascadeOf (made j (table j s) .records) (made j (table j s) .rows)))
-      × (write (cascadeOf (made j (table j s) .records) (made j (table j s) .rows)) records rows
-      ≡ writtenAs 0 (written records 0 (made j (table j s) .records)) (written rows 0 (made j (table j s) .rows)))
-  unfolding read
-  made-read records rows p q =
-      let R = made j (table j s) .records in
-      let bytes = made j (table j s) .rows in
-      let was : read R bytes ≡ wasRead (cascadeOf R bytes) = cond-yes (wellFormed R bytes) (wasRead (cascadeOf R bytes)) (notRead 12) made-stored in
-      (was, read-write R bytes (cascadeOf R bytes) was records rows p q)
-
+-- a job and sheet without a refusal from 1 to 6
+module _ (j : Job) (s : List ℕ) (e : sheetRefusal j s ≡ 0) where
   -- the widths, at the heights 0 to t, are those of definition 3.5
   pub made-width : (h : ℕ) → h ≤ t j → getD (made j (table j s) .widths) h 0 ≡ cofactorWidth j (reduced j (table j s)) h
   unfolding made
@@ -195,6 +179,24 @@ module _ (j : Job) (s : List ℕ) (e : sheetRefusal j s ≡ 0) (kept : refuse8 j
       let b = chiOf j (reduced j (table j s)) z in
       let holds : b ≡ true = sym (flag-is b) ∙ eq-eqb (flag b) 1 (sym (made-diagram z) ∙ ends) in
       sym (chi-sheet j s e z) ∙ final-implies j s e z holds
+
+-- and with a cut list
+module _ (j : Job) (s : List ℕ) (e : sheetRefusal j s ≡ 0) (kept : refuse8 j (made j (table j s) .widths) ≡ false) where
+  -- what is written is well formed
+  pub made-stored : wellFormed (made j (table j s) .records) (made j (table j s) .rows) ≡ true
+  made-stored = made-formed j s e kept
+
+  -- it can be read, and writing what was read gives the same bytes
+  pub made-read : (records rows : List ℕ) → length (made j (table j s) .records) ≤ length records → length (made j (table j s) .rows) ≤ length rows
+      → (read (made j (table j s) .records) (made j (table j s) .rows) ≡ wasRead (cascadeOf (made j (table j s) .records) (made j (table j s) .rows)))
+      × (write (cascadeOf (made j (table j s) .records) (made j (table j s) .rows)) records rows
+      ≡ writtenAs 0 (written records 0 (made j (table j s) .records)) (written rows 0 (made j (table j s) .rows)))
+  unfolding read
+  made-read records rows p q =
+      let R = made j (table j s) .records in
+      let bytes = made j (table j s) .rows in
+      let was : read R bytes ≡ wasRead (cascadeOf R bytes) = cond-yes (wellFormed R bytes) (wasRead (cascadeOf R bytes)) (notRead 12) made-stored in
+      (was, read-write R bytes (cascadeOf R bytes) was records rows p q)
 
   -- for every word w, at the k-th cut: the rail word is the number of the merged column of w's prefix
   pub made-rail : (w k : ℕ) → k < length (made j (table j s) .cuts)
