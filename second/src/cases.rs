@@ -1,4 +1,4 @@
-//! The case table of the scope document, A to J: the sheet T and the jobs.
+//! The case table of the scope document, A to J: the sheet T and the jobs. E is as document 02, §1, has it.
 
 use crate::job::Job;
 
@@ -62,7 +62,7 @@ pub fn d() -> Job {
     t(2, 2)
 }
 
-/// T as sixteen full-mask records, with A's limits.
+/// T as sixteen full-mask records, with A's limits: accepted, and compiled as A is.
 pub fn e() -> Job {
     let mut sheet = Vec::new();
     for word in 0..16u8 {
@@ -75,6 +75,12 @@ pub fn e() -> Job {
         sheet.extend([0b1111, 0, values, 0, forced(0), forced(1), 0, 0]);
     }
     Job { sheet, ..a() }
+}
+
+/// E with y1 above x3, on which it depends: order x1 x2 y1 x3 x4 y2.
+pub fn e2() -> Job {
+    let order = vec![0, 1, 128, 2, 3, 129];
+    Job { order, ..e() }
 }
 
 /// Empty sheet, n 1, m 1, K 2, L 1, order x1 y1.

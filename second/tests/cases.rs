@@ -197,11 +197,24 @@ fn c_is_one_cell_of_sixteen_rows() {
     }
 }
 
+/// Document 02, §1: full rows name every input, but y1 stands above x4 alone and does not depend on it.
 #[test]
-fn d_e_g_and_h_are_refused() {
+fn e_compiles_as_a_does() {
+    for &(name, compile) in COMPILERS {
+        assert!(cases::e().sheet.len() == 16 * 8 && cases::e().sheet != cases::a().sheet);
+        assert_eq!(listing(&cases::e(), compile), LISTING_A, "{name}");
+        assert_eq!(
+            accepted(compile, &cases::e()),
+            accepted(compile, &cases::a())
+        );
+    }
+}
+
+#[test]
+fn d_e2_g_and_h_are_refused() {
     for &(_, compile) in COMPILERS {
         refused(compile, &cases::d(), enough(), 8);
-        refused(compile, &cases::e(), enough(), 6);
+        refused(compile, &cases::e2(), enough(), 6);
         refused(compile, &cases::g(), enough(), 5);
         refused(compile, &cases::h(2056), enough(), 3);
         refused(compile, &cases::h(7), enough(), 3);
@@ -240,7 +253,8 @@ fn i_and_j_lend_too_little() {
 #[test]
 fn t_is_the_table_of_document_000_and_its_widths_fall_from_8_to_4() {
     assert_eq!(plain::table(&cases::a()), Ok(TRUTH.concat()));
-    assert_eq!(plain::table(&cases::e()), Err(6));
+    assert_eq!(plain::table(&cases::e()), Ok(TRUTH.concat()));
+    assert_eq!(plain::table(&cases::e2()), Err(6));
     // The same down another order: y2 first, x4 most significant.
     let order = vec![3, 2, 1, 0, 129, 128];
     let turned = plain::table(&Job {
@@ -306,11 +320,19 @@ fn numbers_and_bytes_of_any_kind() {
         ];
         for record in records {
             // 4 is answered although the records before it are 5, and the order is 6.
-            let sheet = [&cases::g().sheet[..], &cases::e().sheet, &record].concat();
-            refused(compile, &changed(&|j| j.sheet = sheet.clone()), enough(), 4);
+            let sheet = [&cases::g().sheet[..], &cases::e2().sheet, &record].concat();
+            let job = Job {
+                sheet,
+                ..cases::e2()
+            };
+            refused(compile, &job, enough(), 4);
         }
-        let sheet = [cases::g().sheet, cases::e().sheet].concat();
-        refused(compile, &changed(&|j| j.sheet = sheet.clone()), enough(), 5);
+        let sheet = [cases::g().sheet, cases::e2().sheet].concat();
+        let job = Job {
+            sheet,
+            ..cases::e2()
+        };
+        refused(compile, &job, enough(), 5);
     }
 }
 

@@ -8,6 +8,14 @@ use crate::job::Job;
 /// and its leaves for single values. The leaves of the heap for all bits become the table.
 const HEAPS: usize = 2048;
 
+/// Bit 0 of every byte, then of every second, fourth and eighth.
+const STRIDE: [u64; 4] = [
+    0x0101_0101_0101_0101,
+    0x0001_0001_0001_0001,
+    0x0000_0001_0000_0001,
+    0x0000_0000_0000_0001,
+];
+
 /// The job as read, and for each input word which outputs are forced.
 ///
 /// A place is (input word, output). A table word holds 8 input words, lowest byte first; a byte has
@@ -131,23 +139,11 @@ pub fn read(job: &Job, table: &mut Table) -> Result<(), u8> {
         return Err(5);
     }
 
-    let map = spread(&place);
-    let mut named = [0u16; 8];
-    for r in 0..records.count {
-        let mask =
-            map[usize::from(records.mask[r] & 63)] | map[64 + usize::from(records.mask[r] >> 6)];
-        let mut outputs = (records.force[r] | records.against[r]) & 255;
-        while outputs != 0 {
-            named[outputs.trailing_zeros() as usize] |= mask;
-            outputs &= outputs - 1;
-        }
-    }
-    if (0..m).any(|y| named[y] & ((1 << below[y]) - 1) != 0) {
+    fill(table, &records, &spread(&place));
+    if depends_below(table, &below) {
         return Err(6);
     }
-
     keep(table, &below);
-    fill(table, &records, &map);
     Ok(())
 }
 
@@ -210,15 +206,46 @@ fn spread(place: &[u16; 12]) -> [u16; 128] {
     map
 }
 
+/// Whether an output depends on an input below it: at two places that differ in that input's bit
+/// alone it has different values, that is, they differ in the plane of 0s or in that of 1s.
+///
+/// The lowest bits come first. An output above an input is above all inputs below that one too, and
+/// where it depends on none of these, the places where they are 0 stand for the others.
+#[inline(always)]
+fn depends_below(table: &Table, below: &[usize; 8]) -> bool {
+    // For each bit the outputs above its input, in all bytes.
+    let mut above = [0u64; 12];
+    for (y, &low) in below.iter().enumerate().take(table.outputs) {
+        for above in &mut above[..low] {
+            *above |= STRIDE[0] << y;
+        }
+    }
+    let forced = table.forced();
+    let mut differ = 0;
+    for (bit, &outputs) in above.iter().enumerate() {
+        if outputs == 0 {
+            break;
+        }
+        if bit < 3 {
+            let places = outputs & (STRIDE[bit + 1] * 255);
+            for &[zero, one] in forced {
+                differ |= ((zero ^ zero >> (8 << bit)) | (one ^ one >> (8 << bit))) & places;
+            }
+        } else {
+            let step = 1 << (bit - 3);
+            for pair in forced.chunks_exact(2 * step) {
+                let ([zero, one], [high_zero, high_one]) = (pair[0], pair[step]);
+                differ |= ((zero ^ high_zero) | (one ^ high_one)) & outputs;
+            }
+        }
+    }
+    differ != 0
+}
+
 /// Sets which places are kept: a table word divisible by just 2^z takes entry z, word 0 the last.
+/// All others become 0.
 #[inline(always)]
 fn keep(table: &mut Table, below: &[usize; 8]) {
-    const STRIDE: [u64; 4] = [
-        0x0101_0101_0101_0101,
-        0x0001_0001_0001_0001,
-        0x0000_0001_0000_0001,
-        0x0000_0000_0000_0001,
-    ];
     for z in 0..10 {
         let mut kept = 0;
         for (y, &low) in below.iter().enumerate().take(table.outputs) {
@@ -227,6 +254,12 @@ fn keep(table: &mut Table, below: &[usize; 8]) {
             }
         }
         table.kept[z] = kept & low_bytes(table.inputs);
+    }
+    let words = table.words();
+    for word in 0..words {
+        let kept = table.kept(word);
+        let place = &mut table.heaps[3 * words + word];
+        *place = [place[0] & kept, place[1] & kept];
     }
 }
 
@@ -301,11 +334,6 @@ fn fill(table: &mut Table, records: &Records, map: &[u16; 128]) {
             }
         }
         leaves *= 2;
-    }
-    for word in 0..words {
-        let kept = table.kept(word);
-        let place = &mut table.heaps[3 * words + word];
-        *place = [place[0] & kept, place[1] & kept];
     }
 }
 

@@ -56,10 +56,11 @@ pub fn read(job: &Job) -> Result<Function, u8> {
     if contradictory(&records, n) {
         return Err(5);
     }
-    if output_above_named_input(&records, &job.order) {
+    let values: Vec<Vec<u8>> = (0..m).map(|output| values(&records, output, n)).collect();
+    if output_above_input_it_depends_on(&values, &job.order) {
         return Err(6);
     }
-    Ok(function(&records, &job.order, n, m))
+    Ok(function(&values, &job.order, n))
 }
 
 /// 1: n, m, K or L out of range.
@@ -102,46 +103,53 @@ fn contradictory(records: &[Record], n: usize) -> bool {
     })
 }
 
-/// 6: an output stands above an input named for it.
-fn output_above_named_input(records: &[Record], order: &[u8]) -> bool {
-    let named = |input: u8, output: u8| {
-        records
-            .iter()
-            .any(|r| r.outputs() >> output & 1 == 1 && r.mask >> input & 1 == 1)
+/// "An output is 0 or 1 for a word if a matching record forces it, else free (d)": its value for each
+/// word, input 0 in the lowest bit of a word.
+fn values(records: &[Record], output: usize, n: usize) -> Vec<u8> {
+    let value = |word: u16| {
+        let forced = |outputs: fn(&Record) -> u8| {
+            records
+                .iter()
+                .any(|r| r.matches(word) && outputs(r) >> output & 1 == 1)
+        };
+        if forced(|r| r.zeros) {
+            0
+        } else if forced(|r| r.ones) {
+            1
+        } else {
+            FREE
+        }
+    };
+    (0..1 << n).map(value).collect()
+}
+
+/// 6: an output stands above an input on which it depends, so that "two words that differ in that
+/// input alone give it different values among 0, 1 and d".
+fn output_above_input_it_depends_on(values: &[Vec<u8>], order: &[u8]) -> bool {
+    let depends = |output: u8, input: u8| {
+        let values = &values[usize::from(output)];
+        (0..values.len()).any(|word| values[word] != values[word ^ 1 << input])
     };
     order.iter().enumerate().any(|(place, &above)| {
         above >= 128
             && order[place + 1..]
                 .iter()
-                .any(|&below| below < 128 && named(below, above - 128))
+                .any(|&below| below < 128 && depends(above - 128, below))
     })
 }
 
-/// "An output is 0 or 1 for a word if a matching record forces it, else free (d)."
-fn function(records: &[Record], order: &[u8], n: usize, m: usize) -> Function {
-    let mut lines = vec![Vec::with_capacity(1 << n); m];
+/// The outputs' values with the words read down the order.
+fn function(values: &[Vec<u8>], order: &[u8], n: usize) -> Function {
     let inputs: Vec<u8> = order.iter().copied().filter(|&v| v < 128).collect();
-    let outputs: Vec<u8> = order.iter().copied().filter(|&v| v >= 128).collect();
-    for place in 0..1usize << n {
-        // The inputs read down the order, topmost most significant, are the number `place`.
-        let word = inputs.iter().enumerate().fold(0u16, |word, (k, input)| {
-            word | ((place >> (n - 1 - k) & 1) as u16) << input
-        });
-        for (line, output) in lines.iter_mut().zip(&outputs) {
-            let bit = 1u8 << (output - 128);
-            let forced = |outputs: fn(&Record) -> u8| {
-                records
-                    .iter()
-                    .any(|r| r.matches(word) && outputs(r) & bit != 0)
-            };
-            line.push(if forced(|r| r.zeros) {
-                0
-            } else if forced(|r| r.ones) {
-                1
-            } else {
-                FREE
-            });
-        }
-    }
-    Function::new(order, lines)
+    // The inputs read down the order, topmost most significant, are the number `place`.
+    let word = |place: usize| {
+        inputs.iter().enumerate().fold(0, |word, (k, input)| {
+            word | (place >> (n - 1 - k) & 1) << input
+        })
+    };
+    let lines = order.iter().filter(|&&v| v >= 128).map(|&output| {
+        let values = &values[usize::from(output - 128)];
+        (0..1 << n).map(|place| values[word(place)]).collect()
+    });
+    Function::new(order, lines.collect())
 }
