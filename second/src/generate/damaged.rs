@@ -2,7 +2,7 @@
 
 use super::plain::{small, Free};
 use super::random::Random;
-use super::sheet::Record;
+use super::sheet::{bytes, dependent, Record};
 use crate::job::Job;
 
 /// What is wrong with a job.
@@ -192,7 +192,8 @@ fn clash(random: &mut Random, job: &mut Job) {
     }
 }
 
-/// Puts an output above an input that a record, if need be a new one, names for it.
+/// Puts an output above an input on which it depends: one that a record names for it, if it depends on
+/// that, else any; where no output depends on an input, one is made to.
 fn output_above(random: &mut Random, job: &mut Job) {
     let naming: Vec<usize> = (0..job.sheet.len() / 8)
         .filter(|r| {
@@ -200,7 +201,7 @@ fn output_above(random: &mut Random, job: &mut Job) {
             record[0] | record[1] != 0 && record[4] | record[5] != 0
         })
         .collect();
-    let (input, output) = if naming.is_empty() {
+    let (mut input, mut output) = if naming.is_empty() {
         let input = random.below(job.inputs as usize) as u8;
         let output = random.below(job.outputs as usize) as u8;
         let record = Record::new(1 << input, random.word()).forcing(output, random.coin());
@@ -215,6 +216,23 @@ fn output_above(random: &mut Random, job: &mut Job) {
             7 - forced.leading_zeros() as u8,
         )
     };
+    let mut records: Vec<Record> = job.sheet.chunks_exact(8).map(Record::read).collect();
+    let masks = dependent(job.inputs as usize, job.outputs as usize, &records);
+    let depends = |x: u8, y: u8| masks[usize::from(y)] >> x & 1 == 1;
+    if !depends(input, output) {
+        let any = (0..masks.len() as u8).flat_map(|y| (0..12).map(move |x| (x, y)));
+        let pairs: Vec<(u8, u8)> = any.filter(|&(x, y)| depends(x, y)).collect();
+        if pairs.is_empty() {
+            // Free everywhere, then forced for one value of the input.
+            let others = |record: &mut Record| *record = record.only(!(1 << output));
+            records.iter_mut().for_each(others);
+            let record = Record::new(1 << input, random.word());
+            records.push(record.forcing(output, random.coin()));
+            job.sheet = bytes(&records);
+        } else {
+            (input, output) = random.pick(&pairs);
+        }
+    }
     let find = |wanted: u8| job.order.iter().position(|v| *v == wanted);
     if let (Some(low), Some(high)) = (find(input), find(128 + output)) {
         if low < high {

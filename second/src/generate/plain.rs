@@ -1,7 +1,7 @@
 //! Undamaged jobs from hidden functions: small, medium, full rows, and at the limits.
 
 use super::random::Random;
-use super::sheet::{bytes, cover, garnish, order, Density, Hidden, Record, Standing};
+use super::sheet::{bytes, cover, garnish, named, order, Density, Hidden, Record, Standing};
 use crate::job::Job;
 
 #[derive(Clone, Copy, PartialEq, Eq)]
@@ -78,7 +78,7 @@ pub fn small(random: &mut Random, free: Free, fixed: Option<Standing>) -> Job {
     garnish(random, n, &mut records, 256);
     let standing = fixed.unwrap_or_else(|| standing(random));
     let limits = cell_limits(random);
-    let order = order(random, &inputs, m, &records, standing);
+    let order = order(random, &inputs, &named(m, &records), standing);
     finished(n, m, limits, order, &records)
 }
 
@@ -104,7 +104,7 @@ pub fn medium(random: &mut Random) -> Job {
     garnish(random, n, &mut records, 256);
     let standing = standing(random);
     let limits = cell_limits(random);
-    let order = order(random, &inputs, m, &records, standing);
+    let order = order(random, &inputs, &named(m, &records), standing);
     finished(n, m, limits, order, &records)
 }
 
@@ -127,7 +127,7 @@ pub fn full_rows(random: &mut Random) -> Job {
         random.shuffle(&mut records);
     }
     let limits = cell_limits(random);
-    let order = order(random, &inputs, m, &records, Standing::Bottom);
+    let order = order(random, &inputs, &named(m, &records), Standing::Bottom);
     finished(n, m, limits, order, &records)
 }
 
@@ -188,6 +188,6 @@ pub fn at_limits(random: &mut Random, free: Free) -> Job {
     } else {
         cell_limits(random)
     };
-    let order = order(random, &inputs, m, &records, standing);
+    let order = order(random, &inputs, &named(m, &records), standing);
     finished(n, m, limits, order, &records)
 }

@@ -29,6 +29,28 @@ impl Record {
         self
     }
 
+    /// The outputs named.
+    pub fn outputs(self) -> u8 {
+        self.zeros | self.ones
+    }
+
+    /// The same record of these outputs alone.
+    pub fn only(mut self, outputs: u8) -> Record {
+        self.zeros &= outputs;
+        self.ones &= outputs;
+        self
+    }
+
+    /// A record of a sheet in order.
+    pub fn read(bytes: &[u8]) -> Record {
+        Record {
+            mask: u16::from_le_bytes([bytes[0], bytes[1]]),
+            values: u16::from_le_bytes([bytes[2], bytes[3]]),
+            zeros: bytes[4],
+            ones: bytes[5],
+        }
+    }
+
     pub fn bytes(self) -> [u8; 8] {
         let (mask, values) = (self.mask.to_le_bytes(), self.values.to_le_bytes());
         let forced = [self.zeros, self.ones];
@@ -193,27 +215,39 @@ pub enum Standing {
 /// For each output the inputs named for it, as a mask.
 pub fn named(m: usize, records: &[Record]) -> Vec<u16> {
     let names = |output: usize| {
-        let naming = records
-            .iter()
-            .filter(|r| (r.zeros | r.ones) >> output & 1 == 1);
+        let naming = records.iter().filter(|r| r.outputs() >> output & 1 == 1);
         naming.fold(0, |mask, record| mask | record.mask)
     };
     (0..m).map(names).collect()
 }
 
-/// An order with the inputs as given, topmost first, and each output below the inputs named for it.
-pub fn order(
-    random: &mut Random,
-    inputs: &[u8],
-    m: usize,
-    records: &[Record],
-    standing: Standing,
-) -> Vec<u8> {
+/// For each output the inputs on which it depends, as a mask: two words that differ in the input alone
+/// give it different values among 0, 1 and free. No two records clash.
+pub fn dependent(n: usize, m: usize, records: &[Record]) -> Vec<u16> {
+    let forced = |word: u16| {
+        let matching = records.iter().filter(|r| word & r.mask == r.values);
+        matching.fold([0, 0], |all, r| [all[0] | r.zeros, all[1] | r.ones])
+    };
+    let forced: Vec<[u8; 2]> = (0..1 << n).map(forced).collect();
+    let mut masks = vec![0; m];
+    for input in 0..n {
+        let differ = forced.iter().enumerate().fold(0, |outputs, (word, here)| {
+            let there = forced[word ^ 1 << input];
+            outputs | (here[0] ^ there[0]) | (here[1] ^ there[1])
+        });
+        for (output, mask) in masks.iter_mut().enumerate() {
+            *mask |= u16::from(differ >> output & 1) << input;
+        }
+    }
+    masks
+}
+
+/// An order with the inputs as given, topmost first, and each output below the inputs of its mask.
+pub fn order(random: &mut Random, inputs: &[u8], masks: &[u16], standing: Standing) -> Vec<u8> {
     let n = inputs.len();
     let mut below: Vec<Vec<u8>> = vec![Vec::new(); n + 1];
-    let named = named(m, records);
-    for output in random.permutation(m) {
-        let mask = named[usize::from(output)];
+    for output in random.permutation(masks.len()) {
+        let mask = masks[usize::from(output)];
         let least = inputs.iter().rposition(|input| mask >> input & 1 == 1);
         let least = least.map_or(0, |place| place + 1);
         let place = match standing {
