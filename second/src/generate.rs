@@ -3,6 +3,7 @@
 mod blocks;
 mod calls;
 mod damaged;
+mod dependence;
 mod pending;
 mod plain;
 mod random;
@@ -18,14 +19,15 @@ use crate::job::{Job, Lent, Node};
 use plain::Free;
 use sheet::Standing;
 
-/// A kind of job. In all but `SmallDamaged` job and sheet are in order (no refusal 1 to 6).
+/// A kind of job. In all but `SmallDamaged` and `DependentAbove` job and sheet are in order (no refusal 1 to 6).
+/// The numbers drawn go by a family's place here, so a new one comes last.
 #[derive(Clone, Copy, Debug, PartialEq, Eq)]
 pub enum Family {
     /// n 1 to 5, m 1 to 4, most outputs forced for most words.
     SmallFewFree,
     /// The same sizes, most outputs free.
     SmallManyFree,
-    /// The same sizes, few named inputs, outputs anywhere that refusal 6 allows.
+    /// The same sizes, few named inputs, outputs anywhere below those named for them.
     SmallOrders,
     /// Small jobs with one or two faults; the kinds of `Fault` come round with the index.
     SmallDamaged,
@@ -47,6 +49,14 @@ pub enum Family {
     Tight,
     /// K and L the least for which there is a cut list.
     Loose,
+    /// One record with a full mask for each word, n 1 to 8, outputs anywhere below the inputs on which they depend.
+    FullRowsAnywhere,
+    /// Records that name inputs on which the output does not depend, n 1 to 8, outputs as in `FullRowsAnywhere`.
+    NamedNotDependent,
+    /// The sheets of the last two, n up to 12, with one output above an input on which it depends: refused with 6.
+    DependentAbove,
+    /// n 12, m 8, 256 records that name as in `NamedNotDependent`.
+    LimitNamed,
 }
 
 impl Family {
@@ -57,7 +67,7 @@ impl Family {
         Family::SmallOrders,
     ];
 
-    pub const ALL: [Family; 13] = [
+    pub const ALL: [Family; 17] = [
         Family::SmallFewFree,
         Family::SmallManyFree,
         Family::SmallOrders,
@@ -71,6 +81,10 @@ impl Family {
         Family::ColumnsAround,
         Family::Tight,
         Family::Loose,
+        Family::FullRowsAnywhere,
+        Family::NamedNotDependent,
+        Family::DependentAbove,
+        Family::LimitNamed,
     ];
 
     pub fn name(self) -> &'static str {
@@ -88,6 +102,10 @@ impl Family {
             Family::ColumnsAround => "columns-around",
             Family::Tight => "tight",
             Family::Loose => "loose",
+            Family::FullRowsAnywhere => "full-rows-anywhere",
+            Family::NamedNotDependent => "named-not-dependent",
+            Family::DependentAbove => "dependent-above",
+            Family::LimitNamed => "limit-named",
         }
     }
 
@@ -119,6 +137,10 @@ pub fn job(family: Family, seed: u64, index: u64) -> Job {
         }
         Family::Tight => pending::pending(random, true),
         Family::Loose => pending::pending(random, false),
+        Family::FullRowsAnywhere => dependence::full_rows_anywhere(random),
+        Family::NamedNotDependent => dependence::named_not_dependent(random),
+        Family::DependentAbove => dependence::dependent_above(random),
+        Family::LimitNamed => dependence::limit_named(random),
     }
 }
 

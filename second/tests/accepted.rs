@@ -83,4 +83,7 @@ fn larger() {
     check(Family::FullRows, 300);
     check(Family::LimitFewFree, 25);
     check(Family::LimitManyFree, 25);
+    check(Family::LimitNamed, 25);
+    check(Family::FullRowsAnywhere, 300);
+    check(Family::NamedNotDependent, 300);
 }

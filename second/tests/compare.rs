@@ -110,6 +110,18 @@ fn full_rows() {
 fn limits() {
     reached(&compare(Family::LimitFewFree, 25), &[0, 8]);
     reached(&compare(Family::LimitManyFree, 25), &[0]);
+    reached(&compare(Family::LimitNamed, 25), &[0, 8]);
+}
+
+#[test]
+fn dependence() {
+    for family in [Family::FullRowsAnywhere, Family::NamedNotDependent] {
+        let seen = compare(family, 1_000);
+        reached(&seen, &[0, 8, 9, 10, 11]);
+        assert!(!seen.contains_key(&6), "{seen:?}");
+    }
+    let above = compare(Family::DependentAbove, 1_000);
+    assert_eq!(above.keys().collect::<Vec<_>>(), [&6]);
 }
 
 #[test]

@@ -1,6 +1,7 @@
 //! A compiler with its scratch made allocates nothing.
 
 use second::fast::Compiler;
+use second::generate::{job, Family};
 use second::job::{Answer, Job, Lent, Node};
 use std::alloc::{GlobalAlloc, Layout, System};
 use std::cell::Cell;
@@ -35,7 +36,7 @@ fn compile_allocates_nothing() {
         records: vec![0; 80],
         rows: vec![0; 32_768],
     };
-    let mut job = Job {
+    let mut full = Job {
         inputs: 12,
         outputs: 8,
         cell_inputs: 12,
@@ -45,17 +46,28 @@ fn compile_allocates_nothing() {
     };
     let mut state = 12345u32;
     for records in 0..=256 {
-        job.sheet.clear();
+        full.sheet.clear();
         for record in 0..records {
             state = state.wrapping_mul(1_664_525).wrapping_add(1_013_904_223);
             let one = (state >> 24) as u8;
             let value = ((record * 1021) % 4096) as u16;
             let [a, b] = value.to_le_bytes();
-            job.sheet.extend([0xff, 0x0f, a, b, !one, one, 0, 0]);
+            full.sheet.extend([0xff, 0x0f, a, b, !one, one, 0, 0]);
         }
         let before = ALLOCATED.get();
-        let answer = compiler.compile(&job, &mut lent);
+        let answer = compiler.compile(&full, &mut lent);
         assert_eq!(ALLOCATED.get(), before);
         assert!(matches!(answer, Answer::Accepted(_)));
+    }
+    // Outputs above inputs, accepted and refused.
+    for family in [Family::LimitNamed, Family::DependentAbove] {
+        for index in 0..50 {
+            let given = job(family, 1, index);
+            let before = ALLOCATED.get();
+            let answer = compiler.compile(&given, &mut lent);
+            assert_eq!(ALLOCATED.get(), before);
+            let above = family == Family::DependentAbove;
+            assert_eq!(answer == Answer::Refused(6), above, "{given:?}");
+        }
     }
 }

@@ -119,7 +119,7 @@ fn the_same_seed_gives_the_same() {
 fn undamaged_families_are_in_order() {
     for family in Family::ALL
         .into_iter()
-        .filter(|f| *f != Family::SmallDamaged)
+        .filter(|f| ![Family::SmallDamaged, Family::DependentAbove].contains(f))
     {
         for index in 0..300 {
             let job = job(family, 11, index);
@@ -138,10 +138,8 @@ fn masks_overlap_often() {
             records.iter().any(|a| records.iter().any(|b| shared(a, b)))
         };
         let count = (0..200).filter(overlaps).count();
-        assert!(
-            family == Family::FullRows || count > 60,
-            "{family:?} {count}"
-        );
+        let full = [Family::FullRows, Family::FullRowsAnywhere].contains(&family);
+        assert!(full || count > 60, "{family:?} {count}");
     }
 }
 

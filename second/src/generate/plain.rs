@@ -34,14 +34,14 @@ fn standing(random: &mut Random) -> Standing {
 }
 
 /// A support of `size` inputs out of a list.
-fn support(random: &mut Random, from: &[u8], size: usize) -> Vec<u8> {
+pub fn support(random: &mut Random, from: &[u8], size: usize) -> Vec<u8> {
     let mut list = from.to_vec();
     random.shuffle(&mut list);
     list.truncate(size);
     list
 }
 
-fn finished(n: usize, m: usize, limits: (u64, u64), order: Vec<u8>, records: &[Record]) -> Job {
+pub fn finished(n: usize, m: usize, limits: (u64, u64), order: Vec<u8>, records: &[Record]) -> Job {
     Job {
         inputs: n as u64,
         outputs: m as u64,

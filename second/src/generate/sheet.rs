@@ -71,6 +71,14 @@ pub struct Hidden {
 }
 
 impl Hidden {
+    /// The same value for every word.
+    pub fn always(value: bool) -> Hidden {
+        Hidden {
+            support: Vec::new(),
+            table: vec![value],
+        }
+    }
+
     pub fn random(random: &mut Random, support: Vec<u8>) -> Hidden {
         let size = 1usize << support.len();
         let kind = random.below(8);
@@ -90,6 +98,12 @@ impl Hidden {
             })
             .collect();
         Hidden { support, table }
+    }
+
+    /// The value of a word.
+    pub fn value(&self, word: u16) -> bool {
+        let bit = |(place, input): (usize, &u8)| usize::from(word >> input & 1) << place;
+        self.table[self.support.iter().enumerate().map(bit).sum::<usize>()]
     }
 
     fn word(&self, index: usize) -> u16 {
