@@ -247,6 +247,36 @@ fn columns() {
     assert!(seen(&all, 0) >= 50 && seen(&all, 7) >= 50, "{all:?}");
 }
 
+/// Document 02, §1: outputs above inputs named for them, on which they depend or not.
+#[test]
+fn dependence() {
+    let mut inputs = [0u64; 9];
+    for index in 0..12_000 {
+        inputs[job(Family::FullRowsAnywhere, SEED, index).inputs as usize] += 1;
+    }
+    assert!(
+        inputs[1..].iter().all(|&count| count >= 1_000),
+        "{inputs:?}"
+    );
+    let in_order = |all: &Seen| all.keys().all(|number| matches!(number, 0 | 7..=11));
+    for (family, jobs, literal) in [
+        (Family::FullRowsAnywhere, 12_000, 150),
+        (Family::NamedNotDependent, 12_000, 150),
+        (Family::LimitNamed, 400, 4),
+    ] {
+        let all = with_fast(family, jobs);
+        assert!(lent_cases(&all, jobs / 20) && in_order(&all), "{all:?}");
+        let all = with_plain(family, literal);
+        assert!(seen(&all, 0) >= literal && in_order(&all), "{all:?}");
+    }
+    for all in [
+        with_fast(Family::DependentAbove, 8_000),
+        with_plain(Family::DependentAbove, 120),
+    ] {
+        assert!(all.keys().eq([&6]), "{all:?}");
+    }
+}
+
 /// Numbers of any size and slices of any length and contents.
 #[test]
 fn odd_numbers_and_lengths() {

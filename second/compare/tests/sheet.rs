@@ -70,6 +70,19 @@ fn larger() {
     compare(Family::Columns512, 40);
 }
 
+/// Document 02, §1: outputs above inputs named for them, on which they depend or not.
+#[test]
+fn dependence() {
+    for (family, jobs) in [
+        (Family::FullRowsAnywhere, 1_500),
+        (Family::NamedNotDependent, 3_000),
+        (Family::LimitNamed, 40),
+    ] {
+        assert!(compare(family, jobs).keys().eq([&0]));
+    }
+    assert!(compare(Family::DependentAbove, 2_000).keys().eq([&6]));
+}
+
 /// Numbers of any size and slices of any length and contents.
 #[test]
 fn odd_numbers_and_lengths() {
