@@ -273,7 +273,7 @@ pub(super) fn low_bytes(inputs: usize) -> u64 {
     }
 }
 
-/// Fills the table. The lowest three bits of an input word's number choose a byte in a table word.
+/// Fills the table at all places. The lowest three bits of an input word's number choose a byte in a table word.
 /// Of the bits above, a record's highest tested one chooses the heap, so that those over it need no
 /// listing; the record enters at the nodes whose words it matches all, so that those under its
 /// lowest tested one need none either.
