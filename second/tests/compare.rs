@@ -110,7 +110,7 @@ fn full_rows() {
 fn limits() {
     reached(&compare(Family::LimitFewFree, 25), &[0, 8]);
     reached(&compare(Family::LimitManyFree, 25), &[0]);
-    reached(&compare(Family::LimitNamed, 25), &[0, 8]);
+    reached(&compare(Family::LimitNamed, 15), &[0, 8]);
 }
 
 #[test]
