@@ -226,18 +226,22 @@ fn depends_below(table: &Table, below: &[usize; 8]) -> bool {
         if outputs == 0 {
             break;
         }
-        if bit < 3 {
-            let places = outputs & (STRIDE[bit + 1] * 255);
+        let (mut zeros, mut ones) = (0, 0);
+        let places = if bit < 3 {
             for &[zero, one] in forced {
-                differ |= ((zero ^ zero >> (8 << bit)) | (one ^ one >> (8 << bit))) & places;
+                zeros |= zero ^ zero >> (8 << bit);
+                ones |= one ^ one >> (8 << bit);
             }
+            STRIDE[bit + 1] * 255
         } else {
             let step = 1 << (bit - 3);
             for pair in forced.chunks_exact(2 * step) {
-                let ([zero, one], [high_zero, high_one]) = (pair[0], pair[step]);
-                differ |= ((zero ^ high_zero) | (one ^ high_one)) & outputs;
+                zeros |= pair[0][0] ^ pair[step][0];
+                ones |= pair[0][1] ^ pair[step][1];
             }
-        }
+            !0
+        };
+        differ |= (zeros | ones) & outputs & places;
     }
     differ != 0
 }
