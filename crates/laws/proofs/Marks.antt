@@ -8,7 +8,7 @@ use Rattle.laws.specs.Bits.{has, marks, flag}
 use Rattle.laws.proofs.Bits.{has-or, or-flag}
 use Rattle.laws.proofs.Masks.{has-zero}
 use native.Mathlib.Omega.{arith}
-use lib.Bits.{or-lt, bitOr}
+use lib.Bits.{or-lt, or-zero-r, bitOr}
 use lib.Pow.{pow-pos}
 use mathlib.Core.List.{List}
 use native.Mathlib.Numerals.{add-one}
@@ -51,3 +51,25 @@ pub marks-any : (f : ℕ → ℕ) (p : ℕ → Bool) (w : ℕ) → ((d : ℕ) �
 unfolding marks
 marks-any f p zero h = refl
 marks-any f p (suc w) h = ap₂ bitOr (marks-any f p w (λ d l. h d (omega arith))) (h w (omega arith)) ∙ or-flag (any w p) (p w)
+
+-- one mark more; one run of marks after another; equal marks; marks of nothing
+pub marks-grow : (d : ℕ) (g : ℕ → ℕ) (i : ℕ) → marks d g (i + 1) ≡ bitOr (marks d g i) (g i)
+unfolding marks
+marks-grow d g i = rw add-one refl
+
+pub marks-run : (d : ℕ) (g : ℕ → ℕ) (a c : ℕ) → marks (marks d g a) (λ i. g (a + i)) c ≡ marks d g (a + c)
+unfolding marks
+marks-run d g a zero = let e : a ≡ a + 0 = omega arith in ap (marks d g) e
+marks-run d g a (suc c) =
+    let e : suc (a + c) ≡ a + suc c = omega arith in
+    ap (λ (x : ℕ). bitOr x (g (a + c))) (marks-run d g a c) ∙ ap (marks d g) e
+
+pub marks-ext : (d : ℕ) (f g : ℕ → ℕ) (n : ℕ) → ((i : ℕ) → i < n → f i ≡ g i) → marks d f n ≡ marks d g n
+unfolding marks
+marks-ext d f g zero h = refl
+marks-ext d f g (suc n) h = ap₂ bitOr (marks-ext d f g n (λ i l. h i (omega arith))) (h n (omega arith))
+
+pub marks-none : (d : ℕ) (g : ℕ → ℕ) (n : ℕ) → ((i : ℕ) → i < n → g i ≡ 0) → marks d g n ≡ d
+unfolding marks
+marks-none d g zero h = refl
+marks-none d g (suc n) h = ap₂ bitOr (marks-none d g n (λ i l. h i (omega arith))) (h n (omega arith)) ∙ or-zero-r d

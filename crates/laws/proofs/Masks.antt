@@ -2,20 +2,21 @@
 -- and of a test that is counted.
 -- Assumes nothing.
 use mathlib.Core.Path.{_≡_, refl, sym, _∙_, ap, ap₂}
-use mathlib.Core.Bool.{Bool, true, false, not, cond, _&&_, _||_, and-true, true≢false}
+use mathlib.Core.Bool.{Bool, true, false, not, cond, _&&_, _||_, and-true, and-comm, true≢false}
 use Prim.Native.Nat.{ℕ, zero, suc, _*_, _/_, _%_, _^_, _<_}
+use native.Mathlib.Nat.{pow-suc}
 use native.Mathlib.Omega.{arith}
 use lib.Dec.{eqb}
-use lib.Bits.{bitAnd, bitOr, bitXor, xor-shr, xor-mod, and-lt, or-lt, xor-lt}
+use lib.Bits.{bitAnd, bitOr, bitXor, xor-shr, xor-mod, and-lt, and-le-r, or-lt, xor-lt}
 use lib.Pow.{pow-pos}
-use borrow.Author.Tests.{eqb-true, eq-eqb, not-true}
+use borrow.Author.Tests.{eqb-true, eq-eqb, lt-ltb, not-true}
 use Rattle.laws.specs.Bits.{bit, has, flag}
 use Rattle.laws.specs.Tests.{any, sum, count, least}
-use Rattle.laws.proofs.Cases.{by-test, by-less, and-split, and-join, same-test}
-use Rattle.laws.proofs.Tests.{any-of, any-at, any-out}
+use Rattle.laws.proofs.Cases.{by-test, by-less, and-split, and-join, same-test, equal-sym}
+use Rattle.laws.proofs.Tests.{any-of, any-at, any-out, any-ext, any-one}
 use Rattle.laws.proofs.Find.{least-before}
 use Rattle.laws.proofs.Powers.{sum-bit, sum-small}
-use Rattle.laws.proofs.Bits.{bit-lt, flag-lt, flag-is, bit-zero, flag-has, has-and, has-or, same-bits}
+use Rattle.laws.proofs.Bits.{bit-lt, flag-lt, flag-is, bit-zero, flag-has, has-and, has-or, has-power, same-bits}
 
 -- a test that is both
 pub not-both : {C : Type 0} {b : Bool} → b ≡ true → b ≡ false → C
@@ -41,9 +42,38 @@ some-bit k a h =
     let at = any-at (has a) k e in
     by-test (eqb a 0) (λ p. not-both (at .2) (ap (λ (x : ℕ). has x (at .0)) (eqb-true a 0 p) ∙ has-zero (at .0))) (λ p. ap not p))
 
+-- a number without bit q
+pub no-bit : (a q : ℕ) → eqb (bitAnd a (2 ^ q)) 0 ≡ not (has a q)
+no-bit a q =
+    let b = bitAnd a (2 ^ q) in
+    let most = and-le-r a (2 ^ q) in
+    let some : not (eqb b 0) ≡ has a q =
+    some-bit (suc q) b (omega (arith, pow-suc 2 q, pow-pos q))
+    ∙ any-ext (has b) (λ k. eqb k q && has a k) (suc q)
+    (λ k l. has-and a (2 ^ q) k ∙ ap (λ (t : Bool). has a k && t) (has-power q k ∙ equal-sym q k) ∙ and-comm (has a k) (eqb k q))
+    ∙ any-one (has a) q (suc q)
+    ∙ ap (λ (t : Bool). t && has a q) (lt-ltb q (suc q) (omega arith)) in
+    twice (eqb b 0) ∙ ap not some
+  where
+    twice : (t : Bool) → t ≡ not (not t)
+    twice true = refl
+    twice false = refl
+
 -- one bit of an exclusive or
 abbrev pub differ : Bool → Bool → Bool
 differ a b = a && not b || not a && b
+
+pub differ-same : (a b : Bool) → differ a b ≡ false → a ≡ b
+differ-same true true e = refl
+differ-same true false e = not-both refl e
+differ-same false true e = not-both refl e
+differ-same false false e = refl
+
+pub same-differ : (a b : Bool) → a ≡ b → differ a b ≡ false
+same-differ true true e = refl
+same-differ true false e = e
+same-differ false true e = sym e
+same-differ false false e = refl
 
 pub xor-bit : (a b i : ℕ) → bit (bitXor a b) i ≡ bitXor (bit a i) (bit b i)
 xor-bit a b i = ap (λ (x : ℕ). x % 2) (xor-shr a b i) ∙ xor-mod (a / 2 ^ i) (b / 2 ^ i) 1
