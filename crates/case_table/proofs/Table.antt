@@ -17,6 +17,7 @@ case-table =
       C = refl;
       D = refl;
       E = refl;
+      E-above = refl;
       F = refl;
       G = refl;
       H-long = refl;

@@ -1,4 +1,4 @@
--- The case table of document 01, A to L, as one statement.
+-- The case table of document 01, A to L, as one statement; E as document 02, §1, has it.
 -- Assumes nothing.
 use mathlib.Core.Path.{_≡_}
 use mathlib.Core.List.{List, [], _∷_, _++_}
@@ -11,7 +11,7 @@ use Rattle.bank_spec.specs.State.{fresh}
 use Rattle.bank_spec.specs.Calls.{Answer, accepted, refused}
 use Rattle.bank_spec.specs.Book.{newBook}
 use Rattle.bank_spec.specs.CallLists.{Call, admission, Entry, trace, bookTrace, stateAfter}
-use Rattle.sheet_spec.specs.Example.{T, fullT, jobT, jobF, clashing}
+use Rattle.sheet_spec.specs.Example.{T, fullT, jobT, jobAbove, jobF, clashing}
 use Rattle.cutting_spec.specs.Example.{recordsA, rowsA}
 use Rattle.case_table.specs.Lent.{oldBytes, lending}
 use Rattle.case_table.specs.Results.{resultA, listingA, resultB, resultC, resultF, refusedWith}
@@ -34,8 +34,10 @@ pub record CaseTable : Type 0 where
   pub C : lending 15 24 16 (jobT 4 2) T ≡ resultC
   -- T, K 2, L 2: 8
   pub D : lending 15 24 16 (jobT 2 2) T ≡ refusedWith 8 15 24 16
-  -- T as sixteen full-mask records: 6
-  pub E : lending 15 24 16 (jobT 3 2) fullT ≡ refusedWith 6 15 24 16
+  -- T as sixteen full-mask records: all that A gives (document 02, §1)
+  pub E : lending 15 24 16 (jobT 3 2) fullT ≡ resultA
+  -- the same with y1 above x3, on which it depends: 6
+  pub E-above : lending 15 24 16 jobAbove fullT ≡ refusedWith 6 15 24 16
   -- empty sheet: widths 1 and 1, rows 0 0
   pub F : lending 3 9 3 jobF [] ≡ resultF
   -- F's job, one output forced both ways by records that match every word: 5

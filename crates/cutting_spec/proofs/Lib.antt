@@ -7,6 +7,7 @@ pub mod Demand2
 pub mod Emits
 mod Examples
 pub mod GreedyCells
+mod KeptBytes
 pub mod MadeCascade
 pub mod Promises
 pub mod RailCounts

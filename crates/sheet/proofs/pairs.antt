@@ -1,4 +1,3 @@
 -- Laws of `src/pairs.rt`.
 pub mod ClashPairs
-pub mod Crossings
 pub mod LoopSteps

@@ -1,3 +1,4 @@
 -- What the functions of `sheet` cite.
+pub mod Depends
 pub mod Pairs
 pub mod Planes

@@ -1,16 +1,13 @@
--- Refusals 5 and 6 as the code finds them: by pairs of records and by masks of inputs. That they are refusals 5 and 6 is proved.
+-- Refusal 5 as the code finds it, by pairs of records. That it is refusal 5 is proved.
 -- Assumes nothing.
-use Prim.Native.Nat.{ℕ, _+_, _*_, _^_}
+use Prim.Native.Nat.{ℕ, _+_, _*_}
 use mathlib.Core.Bool.{Bool, not, _&&_}
 use mathlib.Core.List.{List}
-use lib.Dec.{eqb, ltb}
+use lib.Dec.{eqb}
 use lib.ListN.{getD}
 use lib.Bits.{bitAnd, bitXor}
-use Rattle.laws.specs.Tests.{any, sum}
-use Rattle.laws.specs.Bits.{flag}
-use Rattle.sheet_spec.specs.Records.{recordCount, byte, mask, values, names}
-use Rattle.sheet_spec.specs.Job.{outputByte}
-use Rattle.sheet_spec.specs.Refusals.{placeOf}
+use Rattle.laws.specs.Tests.{any}
+use Rattle.sheet_spec.specs.Records.{recordCount, byte, mask, values}
 
 -- bytes lo and hi of record r as one number, lo lowest
 abbrev pub pairOf : List ℕ → ℕ → ℕ → ℕ → ℕ
@@ -37,14 +34,3 @@ hit s r q =
 -- some record is hit by one before it
 unfoldable pub anyHit : List ℕ → Bool
 anyHit s = any (recordCount s) (λ r. any r (hit s r))
-
--- the inputs that stand below the variable v in the order, as a mask
-unfoldable pub belowMask : List ℕ → ℕ → ℕ → ℕ
-belowMask order n v = sum n (λ i. flag (ltb (placeOf order v) (placeOf order i)) * 2 ^ i)
-
--- a record names output o and tests an input of the mask
-unfoldable pub crosses : List ℕ → ℕ → ℕ → Bool
-crosses s below o = any (recordCount s) (λ r. names s r o && not (eqb (bitAnd (mask s r) below) 0))
-
-unfoldable pub anyCrosses : ℕ → ℕ → List ℕ → List ℕ → Bool
-anyCrosses n m order s = any m (λ o. crosses s (belowMask order n (outputByte o)) o)

@@ -80,11 +80,15 @@ planeOf ks vs s at = puts 4096 (λ x. bitOr (getD (highPlane ks vs s at) x 0) (g
 unfoldable pub lineAt : List ℕ → List ℕ → List ℕ → ℕ → ℕ → ℕ
 lineAt zs ys os k x = lineValue (getD zs x 0) (getD ys x 0) (getD os k 0 % 8)
 
+-- the outputs forced to 0, and those forced to 1, at each place
+unfoldable pub zerosPlane : ℕ → List ℕ → List ℕ → List ℕ
+zerosPlane n order s = planeOf (numberedField n order s 0 1) (numberedField n order s 2 3) s 4
+
+unfoldable pub onesPlane : ℕ → List ℕ → List ℕ → List ℕ
+onesPlane n order s = planeOf (numberedField n order s 0 1) (numberedField n order s 2 3) s 5
+
 unfoldable pub madeTable : ℕ → ℕ → List ℕ → List ℕ → List ℕ
-madeTable n m order s =
-    let ks = numberedField n order s 0 1 in
-    let vs = numberedField n order s 2 3 in
-    rect m (2 ^ n) (lineAt (planeOf ks vs s 4) (planeOf ks vs s 5) (outputArray order))
+madeTable n m order s = rect m (2 ^ n) (lineAt (zerosPlane n order s) (onesPlane n order s) (outputArray order))
 
 -- the list holds 0, 1, .., 255
 abbrev pub CountsUp : List ℕ → Type 0

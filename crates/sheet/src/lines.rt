@@ -5,9 +5,7 @@ ghost use lib.ListN.{length, getD, replicate};
 ghost use lib.Seq.{sets};
 ghost use Rattle.laws.specs.Lists.{putsAt, rect};
 ghost use Rattle.sheet_spec.specs.Job.{inputsTo, outputsTo};
-ghost use Rattle.sheet_spec.specs.Table.{tableOf};
-ghost use Rattle.sheet.specs.Planes.{lineValue, lineAt, numberedField, planeOf};
-ghost use Rattle.sheet_spec.specs.Accepted.{Accepted};
+ghost use Rattle.sheet.specs.Planes.{lineValue, lineAt, fieldArray, numberArray, planeOf, outputArray};
 use crate::planes::mark_high;
 use crate::planes::mark_low;
 use crate::planes::number_words;
@@ -20,7 +18,7 @@ use sheet_spec::MOST_VARIABLES;
 use sheet_spec::Table;
 
 // The inputs of the order, lowest first.
-fn input_list(order: &[u8], list: &mut [u8; MOST_VARIABLES])
+pub fn input_list(order: &[u8], list: &mut [u8; MOST_VARIABLES])
     requires { do ⌜ (← ⟦order.len()⟧) ≤ 20 ⌝ }
     ensures { λ _.
         ⌜ now (list .exit)
@@ -114,23 +112,21 @@ fn write_lines(
     }
 }
 
-// Bytes lo and hi of each record, as numbers read down the order.
+// Bytes lo and hi of each record, as numbers read down the order, whose inputs are lent, lowest first.
 fn number_field(
     n: usize,
-    order: &[u8],
+    inputs: &[u8; MOST_VARIABLES],
     sheet: &[u8],
     lo: usize,
     hi: usize,
     numbers: &mut [u16; 256],
 )
-    requires { do ⌜ (n ≤ 12) × ((← ⟦order.len()⟧) ≤ 20) × ((← ⟦sheet.len()⟧) ≤ 2048) × (lo < 8) × (hi < 8) × (now numbers ≡ replicate 256 0) ⌝ }
-    ensures { λ _. ⌜ now (numbers .exit) ≡ numberedField n (now (order .entry)) (now (sheet .entry)) lo hi ⌝ }
+    requires { do ⌜ (n ≤ 12) × ((← ⟦sheet.len()⟧) ≤ 2048) × (lo < 8) × (hi < 8) × (now numbers ≡ replicate 256 0) ⌝ }
+    ensures { λ _. ⌜ now (numbers .exit) ≡ numberArray (now (inputs .entry)) n (fieldArray (now (sheet .entry)) lo hi) ⌝ }
 {
-    let mut inputs = [0u8; MOST_VARIABLES];
-    input_list(order, &mut inputs);
     let mut words = [0u16; 256];
     load(sheet, lo, hi, &mut words);
-    number_words(&inputs, n, &words, numbers);
+    number_words(inputs, n, &words, numbers);
 }
 
 // What the outputs of byte at of each record force, place by place.
@@ -153,20 +149,48 @@ fn plane_of(
     spread(&row, plane);
 }
 
-// The whole table.
-pub fn write(n: usize, m: usize, order: &[u8], sheet: &[u8], table: &mut Table)
-    requires { ⌜ Accepted n m (now order) (now sheet) ⌝ }
-    ensures { λ _. ⌜ now (table .exit) ≡ sets (now (table .entry)) 0 (tableOf n m (now (order .entry)) (now (sheet .entry))) ⌝ }
+// The outputs forced to 0, and those forced to 1, at each place.
+pub fn fill_planes(
+    n: usize,
+    inputs: &[u8; MOST_VARIABLES],
+    sheet: &[u8],
+    zeros: &mut [u8; 4096],
+    ones: &mut [u8; 4096],
+)
+    requires { do ⌜ (n ≤ 12) × ((← ⟦sheet.len()⟧) ≤ 2048) × (now zeros ≡ replicate 4096 0) × (now ones ≡ replicate 4096 0) ⌝ }
+    ensures { λ _.
+        ⌜ now (zeros .exit)
+        ≡ planeOf (numberArray (now (inputs .entry)) n (fieldArray (now (sheet .entry)) 0 1))
+        (numberArray (now (inputs .entry)) n (fieldArray (now (sheet .entry)) 2 3)) (now (sheet .entry)) 4 ⌝ }
+    ensures { λ _.
+        ⌜ now (ones .exit)
+        ≡ planeOf (numberArray (now (inputs .entry)) n (fieldArray (now (sheet .entry)) 0 1))
+        (numberArray (now (inputs .entry)) n (fieldArray (now (sheet .entry)) 2 3)) (now (sheet .entry)) 5 ⌝ }
 {
     let mut masks = [0u16; 256];
-    number_field(n, order, sheet, 0, 1, &mut masks);
+    number_field(n, inputs, sheet, 0, 1, &mut masks);
     let mut values = [0u16; 256];
-    number_field(n, order, sheet, 2, 3, &mut values);
-    let mut zeros = [0u8; 4096];
-    plane_of(&masks, &values, sheet, 4, &mut zeros);
-    let mut ones = [0u8; 4096];
-    plane_of(&masks, &values, sheet, 5, &mut ones);
+    number_field(n, inputs, sheet, 2, 3, &mut values);
+    plane_of(&masks, &values, sheet, 4, zeros);
+    plane_of(&masks, &values, sheet, 5, ones);
+}
+
+// The whole table, from the planes.
+pub fn write(
+    n: usize,
+    m: usize,
+    order: &[u8],
+    zeros: &[u8; 4096],
+    ones: &[u8; 4096],
+    table: &mut Table,
+)
+    requires { do ⌜ (n ≤ 12) × (m ≤ 8) × ((← ⟦order.len()⟧) ≤ 20) ⌝ }
+    ensures { λ _.
+        ⌜ now (table .exit)
+        ≡ sets (now (table .entry)) 0
+        (rect m (2 ^ n) (lineAt (now (zeros .entry)) (now (ones .entry)) (outputArray (now (order .entry))))) ⌝ }
+{
     let mut list = [0u8; MOST_VARIABLES];
     output_list(order, &mut list);
-    write_lines(n, m, &list, &zeros, &ones, table);
+    write_lines(n, m, &list, zeros, ones, table);
 }

@@ -1,13 +1,9 @@
-// Refusal 5 by pairs of records, refusal 6 by masks of inputs.
+// Refusal 5, by pairs of records.
 ghost use mathlib.Core.Path.{_≡_};
-ghost use Prim.Native.Nat.{_≤_, _<_, _/_, _^_};
+ghost use Prim.Native.Nat.{_≤_, _<_, _/_};
 ghost use Rattle.laws.specs.Tests.{any};
-ghost use Rattle.sheet.specs.Pairs.{hitIn, anyHit, belowMask, crosses, anyCrosses};
-use crate::order::place_of;
-use crate::powers::power;
+ghost use Rattle.sheet.specs.Pairs.{hitIn, anyHit};
 use crate::records::load;
-use crate::records::pair;
-use numbers::wide;
 
 // Whether a record before r agrees with it on the inputs that both test, and forces an output the other way.
 fn hit_before(
@@ -66,53 +62,4 @@ pub fn any_hit(sheet: &[u8]) -> bool
     let mut against = [0u16; 256];
     load(sheet, 5, 4, &mut against);
     hit_among(&masks, &values, &forces, &against, sheet.len() / 8)
-}
-
-// The inputs that stand below the variable v in the order, as a mask.
-fn below_mask(order: &[u8], n: usize, v: usize) -> usize
-    requires { ⌜ n ≤ 12 ⌝ }
-    ensures { λ r. ⌜ (r ≡ belowMask (now (order .entry)) n v) × (r < 2 ^ n) ⌝ }
-{
-    let top = place_of(order, v);
-    let mut mask = 0;
-    let mut i = 0;
-    while i < n {
-        if top < place_of(order, i) {
-            mask += power(i);
-        }
-        i += 1;
-    }
-    mask
-}
-
-// Whether a record names output o and tests an input of the mask.
-fn is_crossed(sheet: &[u8], below: usize, o: usize) -> bool
-    requires { ⌜ o < 8 ⌝ }
-    ensures { λ b. ⌜ b ≡ crosses (now (sheet .entry)) below o ⌝ }
-{
-    let count = sheet.len() / 8;
-    let mut found = false;
-    let mut r = 0;
-    while r < count {
-        let zeros = wide(sheet[r * 8 + 4]);
-        let ones = wide(sheet[r * 8 + 5]);
-        let named = ((zeros >> o) % 2 == 1) | ((ones >> o) % 2 == 1);
-        found = found | (named & (pair(sheet, 0, 1, r) & below != 0));
-        r += 1;
-    }
-    found
-}
-
-pub fn any_crosses(n: usize, m: usize, order: &[u8], sheet: &[u8]) -> bool
-    requires { ⌜ (n ≤ 12) × (m ≤ 8) ⌝ }
-    ensures { λ b. ⌜ b ≡ anyCrosses n m (now (order .entry)) (now (sheet .entry)) ⌝ }
-{
-    let mut found = false;
-    let mut o = 0;
-    while o < m {
-        let below = below_mask(order, n, 128 + o);
-        found = found | is_crossed(sheet, below, o);
-        o += 1;
-    }
-    found
 }

@@ -23,7 +23,7 @@ fn added_at(k: u8, v: u8, f: u8, i: u8) -> u8
 }
 
 // The numbers 0 to 255.
-fn count_up(low: &mut [u8; 256])
+pub fn count_up(low: &mut [u8; 256])
     ensures { λ _. ⌜ now (low .exit) ≡ puts 256 (λ i. i) (now (low .entry)) ⌝ }
 {
     let mut i = 0;

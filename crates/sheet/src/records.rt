@@ -19,7 +19,7 @@ pub fn length_refused(sheet: &[u8]) -> bool
 }
 
 // Bytes lo and hi of record r as one number, lo lowest.
-pub fn pair(sheet: &[u8], lo: usize, hi: usize, r: usize) -> usize
+fn pair(sheet: &[u8], lo: usize, hi: usize, r: usize) -> usize
     requires { do ⌜ (r < (← ⟦sheet.len()⟧) / 8) × (lo < 8) × (hi < 8) ⌝ }
     ensures { λ v. ⌜ (v ≡ pairOf (now (sheet .entry)) lo hi r) × (v < 65536) ⌝ }
 {

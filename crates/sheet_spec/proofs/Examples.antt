@@ -6,10 +6,11 @@ use mathlib.Core.List.{List, [], _∷_, _++_}
 use Prim.Native.Nat.{ℕ}
 use Rattle.sheet_spec.specs.Opened.{sheetOpened}
 use Rattle.sheet_spec.specs.Job.{inputList, wordOf, numberOf}
+use Rattle.sheet_spec.specs.Values.{depends}
 use Rattle.sheet_spec.specs.Refusals.{sheetRefusal}
 use Rattle.sheet_spec.specs.Table.{table}
 use Rattle.sheet_spec.specs.Characteristic.{chi}
-use Rattle.sheet_spec.specs.Example.{T, fullT, jobT, jobF, clashing}
+use Rattle.sheet_spec.specs.Example.{line, T, fullT, jobT, jobAbove, jobF, clashing}
 
 -- the lines of y2 and of y1, as the truth table prints them down its rows
 abbrev y2 : List ℕ
@@ -26,14 +27,24 @@ pub T-table : table (jobT 3 2) T ≡ y2 ++ y1
 unfolding sheetOpened
 T-table = refl
 
--- as sixteen full-mask records it is the same function, and y1 stands above x4, which is named for it
+-- as sixteen full-mask records it is the same function; y1 stands above x4 and does not depend on it
 pub full-table : table (jobT 3 2) fullT ≡ y2 ++ y1
 unfolding sheetOpened
 full-table = refl
 
-pub full-refused : sheetRefusal (jobT 3 2) fullT ≡ 6
+pub full-accepted : sheetRefusal (jobT 3 2) fullT ≡ 0
 unfolding sheetOpened
-full-refused = refl
+full-accepted = refl
+
+-- with y1 above x3, on which it depends, both are refused
+pub above-refused : (sheetRefusal jobAbove T ≡ 6) × (sheetRefusal jobAbove fullT ≡ 6)
+unfolding sheetOpened
+above-refused = (refl, refl)
+
+-- forced on one side and free on the other is dependence
+pub forced-free : (depends 1 (line 1 0 1 0) 0 0 ≡ true) × (depends 1 (line 1 1 0 1) 0 0 ≡ true) × (depends 1 (line 1 0 1 0 ++ line 1 1 1 0) 0 0 ≡ false)
+unfolding sheetOpened
+forced-free = (refl, refl, refl)
 
 pub clashing-refused : sheetRefusal jobF clashing ≡ 5
 unfolding sheetOpened

@@ -1,9 +1,11 @@
 -- Laws of the definitions. The crates of the layer may cite those that are `pub`, the layers above those of Promises alone.
 pub mod Chi
-mod Clashes
+pub mod Clashes
+pub mod Dependence
 mod Examples
 pub mod LeastRefusal
 pub mod LinesSettled
+pub mod NamedInputs
 pub mod OrderHeights
 pub mod OrderRule
 pub mod Orders

@@ -151,7 +151,7 @@ module _ (j : Job) (s : List ℕ) (e : sheetRefusal j s ≡ 0) where
       let y = x / 2 ^ b * 2 ^ b in
       let small = word-small (j .n) (j .m) (j .order) (c .order-whole) (c .inputs) (c .outputs) in
       let reads = word-bit (j .n) (j .m) (j .order) (c .order-whole) (c .inputs) (c .outputs) in
-      value-settled j s (c .inputs) (c .outputs) (c .records-good) (c .order-whole) (kept j s e) (getD outputs k 0) (wordOf inputs x) (wordOf inputs y)
+      value-settled j s (c .inputs) (c .order-whole) (kept j s e) (getD outputs k 0) (wordOf inputs x) (wordOf inputs y)
       (output-below (j .n) (j .m) (j .order) (c .order-whole) (c .inputs) (c .outputs) k k<)
       (λ i i< above.
       let (q, q<, is, from) = input-above i k i< k< above in

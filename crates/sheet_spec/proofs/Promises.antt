@@ -15,5 +15,7 @@ pub use Rattle.sheet_spec.proofs.Words.{number-bit, number-small, word-
 pub use Rattle.sheet_spec.proofs.Tables.{table-entry, table-length, table-below, value-below}
 -- the order rule: the line of an output does not depend on the inputs below it
 pub use Rattle.sheet_spec.proofs.LinesSettled.{insBelow, insBelow-at, insBelow-ins, table-ruled}
+-- the least refusal with 6 by naming, as document 01 has it, and what became of it
+pub use Rattle.sheet_spec.proofs.NamedInputs.{namedRefusal, same-or-6}
 -- the characteristic function allows what the sheet allows
 pub use Rattle.sheet_spec.proofs.Chi.{meets-allows, chi-allows}

@@ -1,4 +1,4 @@
--- The sheets and jobs of the worked examples (document 01, "The case table").
+-- The sheets and jobs of the worked examples (document 01, "The case table"; document 02, §1).
 -- Assumes nothing.
 use Prim.Native.Nat.{ℕ}
 use mathlib.Core.List.{List, [], _∷_, _++_}
@@ -39,6 +39,10 @@ fullT =
 -- order x1 x2 x3 y1 x4 y2
 abbrev pub jobT : ℕ → ℕ → Job
 jobT k l = record { n = 4; m = 2; K = k; L = l; order = 0 ∷ 1 ∷ 2 ∷ 128 ∷ 3 ∷ 129 ∷ [] }
+
+-- order x1 x2 y1 x3 x4 y2: y1 stands above x3, on which it depends
+abbrev pub jobAbove : Job
+jobAbove = record { n = 4; m = 2; K = 3; L = 2; order = 0 ∷ 1 ∷ 128 ∷ 2 ∷ 3 ∷ 129 ∷ [] }
 
 -- n 1, m 1, K 2, L 1, order x1 y1
 abbrev pub jobF : Job

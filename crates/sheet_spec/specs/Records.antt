@@ -1,7 +1,7 @@
 -- The records of a sheet (document 01, "The sheet"). A sheet is the list of its bytes; w is an input word, o an output, i an input.
 -- Assumes nothing.
 use Prim.Native.Nat.{ℕ, _+_, _*_, _/_}
-use mathlib.Core.Bool.{Bool, _||_}
+use mathlib.Core.Bool.{Bool}
 use mathlib.Core.List.{List}
 use lib.Dec.{eqb}
 use lib.ListN.{length, getD}
@@ -35,15 +35,8 @@ unfoldable pub matches : List ℕ → ℕ → ℕ → Bool
 matches s r w = eqb (bitAnd w (mask s r)) (bitAnd (values s r) (mask s r))
 
 -- bit i, counted from the lowest, is input i or output i
-unfoldable pub tests : List ℕ → ℕ → ℕ → Bool
-tests s r i = has (mask s r) i
-
 unfoldable pub forces0 : List ℕ → ℕ → ℕ → Bool
 forces0 s r o = has (zeros s r) o
 
 unfoldable pub forces1 : List ℕ → ℕ → ℕ → Bool
 forces1 s r o = has (ones s r) o
-
--- the record names the output
-abbrev pub names : List ℕ → ℕ → ℕ → Bool
-names s r o = forces0 s r o || forces1 s r o

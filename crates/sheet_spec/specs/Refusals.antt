@@ -1,4 +1,4 @@
--- Refusals 1 to 6, each as its own test, and the least one (document 01, "Who can cause a refusal").
+-- Refusals 1 to 6, each as its own test, and the least one (document 01, "Who can cause a refusal"; 6 as document 02, §1, has it).
 -- Assumes nothing.
 use Prim.Native.Nat.{ℕ, _+_, _%_, _-_, _^_}
 use mathlib.Core.Bool.{Bool, not, cond, _&&_, _||_}
@@ -10,7 +10,7 @@ use Rattle.laws.specs.Tests.{any, every, count, least, within}
 use Rattle.sheet_spec.specs.Limits.{mostInputs, mostOutputs, largestInputs, largestOutputs, sheetBytes}
 use Rattle.sheet_spec.specs.Records.{recordCount, byte, mask, values, zeros, ones, matches, forces0, forces1}
 use Rattle.sheet_spec.specs.Job.{Job, t, outputByte}
-use Rattle.sheet_spec.specs.Values.{named}
+use Rattle.sheet_spec.specs.Values.{depends}
 
 -- 1: n, m, K or L out of range
 unfoldable pub outOfRange : ℕ → ℕ → ℕ → ℕ → Bool
@@ -76,13 +76,13 @@ placeOf order v = least (length order) (λ i. eqb (getD order i 0) v)
 unfoldable pub heightOf : Job → ℕ → ℕ
 heightOf j v = t j - placeOf (j .order) v
 
--- output o stands above an input named for it
-unfoldable pub aboveNamed : Job → List ℕ → ℕ → ℕ → Bool
-aboveNamed j s o i = named s i o && ltb (heightOf j i) (heightOf j (outputByte o))
+-- output o stands above input i, on which it depends
+unfoldable pub aboveInput : Job → List ℕ → ℕ → ℕ → Bool
+aboveInput j s o i = ltb (heightOf j i) (heightOf j (outputByte o)) && depends (j .n) s i o
 
 -- 6: some output does
 unfoldable pub refuse6 : Job → List ℕ → Bool
-refuse6 j s = any (j .m) (λ o. any (j .n) (aboveNamed j s o))
+refuse6 j s = any (j .m) (λ o. any (j .n) (aboveInput j s o))
 
 -- the lowest wins; 0 where none of the six is given
 unfoldable pub sheetRefusal : Job → List ℕ → ℕ

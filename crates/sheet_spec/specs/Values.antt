@@ -1,11 +1,12 @@
--- What a sheet says of an output for a word (document 01, "The sheet").
+-- What a sheet says of an output for a word (document 01, "The sheet"), and on which inputs that depends (document 02, §1).
 -- Assumes nothing.
-use Prim.Native.Nat.{ℕ}
-use mathlib.Core.Bool.{Bool, cond, _&&_, _||_}
+use Prim.Native.Nat.{ℕ, _^_}
+use mathlib.Core.Bool.{Bool, not, cond, _&&_, _||_}
 use mathlib.Core.List.{List}
 use lib.Dec.{eqb}
+use lib.Bits.{bitXor}
 use Rattle.laws.specs.Tests.{any}
-use Rattle.sheet_spec.specs.Records.{recordCount, matches, forces0, forces1, names, tests}
+use Rattle.sheet_spec.specs.Records.{recordCount, matches, forces0, forces1}
 
 -- a matching record forces output o to 0; to 1
 unfoldable pub forcedTo0 : List ℕ → ℕ → ℕ → Bool
@@ -26,6 +27,10 @@ value s w o = cond (forcedTo0 s w o) 0 (cond (forcedTo1 s w o) 1 free)
 unfoldable pub allows : ℕ → ℕ → Bool
 allows v b = eqb v b || eqb v free
 
--- an input is named for an output when some record names the output and tests the input
-unfoldable pub named : List ℕ → ℕ → ℕ → Bool
-named s i o = any (recordCount s) (λ r. names s r o && tests s r i)
+-- two words differ in input i alone
+unfoldable pub differAlone : ℕ → ℕ → ℕ → Bool
+differAlone i w v = eqb (bitXor w v) (2 ^ i)
+
+-- an output depends on an input: two words of n inputs that differ in that input alone give it different values among 0, 1 and d
+unfoldable pub depends : ℕ → List ℕ → ℕ → ℕ → Bool
+depends n s i o = any (2 ^ n) (λ w. any (2 ^ n) (λ v. differAlone i w v && not (eqb (value s w o) (value s v o))))

@@ -25,14 +25,16 @@ use Rattle.laws.proofs.Masks.{has-cond}
 use Rattle.sheet_spec.specs.Records.{recordCount, byte, matches, forces0, forces1}
 use Rattle.sheet_spec.specs.Job.{inputsTo, outputsTo, wordOf, numberOf}
 use Rattle.sheet_spec.specs.Values.{forcedTo0, forcedTo1, value}
-use Rattle.sheet_spec.specs.Refusals.{refuse3, malformed, anyMalformed}
+use Rattle.sheet_spec.specs.Refusals.{refuse3, malformed, anyMalformed, clash}
 use Rattle.sheet_spec.specs.Table.{tableAt, tableOf}
 use Rattle.sheet.specs.Pairs.{pairOf}
-use Rattle.sheet.specs.Planes.{agrees, added, highAdded, lowAdded, numberTo, lineValue, inputArray, outputArray, fieldArray, byteArray, numberArray, numberedField, highPlane, lowRow, planeOf, lineAt, madeTable}
+use Rattle.sheet.specs.Planes.{agrees, added, highAdded, lowAdded, numberTo, lineValue, inputArray, outputArray, fieldArray, byteArray, numberArray, numberedField, highPlane, lowRow, planeOf, lineAt, zerosPlane, onesPlane, madeTable}
 use Rattle.sheet_spec.specs.Accepted.{Accepted}
 use Rattle.sheet_spec.proofs.RecordFields.{order-length}
 use Rattle.sheet_spec.proofs.Orders.{inputs-length, outputs-length, input-below, output-below}
+use Rattle.sheet_spec.proofs.Words.{word-small}
 use Rattle.sheet.proofs.lines.PlaceNumbers.{matches-number, numberTo-is}
+use Rattle.sheet_spec.proofs.Clashes.{never-both}
 use Rattle.sheet.proofs.planes.PlaceBlocks.{added-parts}
 use Rattle.laws.proofs.Marks.{marks-has}
 
@@ -110,7 +112,7 @@ module _ (n m : ℕ) (order s : List ℕ) (c : Accepted n m order s) where
   order-is : length order ≡ n + m
   order-is = order-length n m order (c .order-whole)
 
-  input-at : (k : ℕ) → k < n → getD (inputArray order) k 0 ≡ getD (inputsTo (n + m) order (n + m)) k 0
+  pub input-at : (k : ℕ) → k < n → getD (inputArray order) k 0 ≡ getD (inputsTo (n + m) order (n + m)) k 0
   unfolding inputArray
   input-at k h =
       let e = inputs-length n m order (c .order-whole) (c .inputs) (c .outputs) in
@@ -161,25 +163,33 @@ module _ (n m : ℕ) (order s : List ℕ) (c : Accepted n m order s) where
       ∙ any-ext (λ r. agrees (getD ks r 0) (getD vs r 0) x && has (getD (byteArray s at) r 0) o) (λ r. matches s r w && has (byte s r at) o) (recordCount s)
       (λ r h. ap₂ (λ (p : Bool) (f : ℕ). p && has f o) (has-place r x h l) (byte-at s at r few h))
 
-  line-at : (k x : ℕ) → k < m → x < 2 ^ n
-      → lineAt (planeOf (numberedField n order s 0 1) (numberedField n order s 2 3) s 4)
-      (planeOf (numberedField n order s 0 1) (numberedField n order s 2 3) s 5) (outputArray order) k x
-      ≡ tableAt n m order s k x
-  unfolding lineAt tableAt value forcedTo0 forcedTo1 forces0 forces1
+  -- the value at place x of the two planes; where no records clash, no output is in both
+  pub plane-value : (x o : ℕ) → x < 2 ^ n
+      → cond (has (getD (zerosPlane n order s) x 0) o) 0 (cond (has (getD (onesPlane n order s) x 0) o) 1 2)
+      ≡ value s (wordOf (inputsTo (n + m) order (n + m)) x) o
+  unfolding zerosPlane onesPlane value forcedTo0 forcedTo1 forces0 forces1
+  plane-value x o l = ap₂ (λ (p q : Bool). cond p 0 (cond q 1 2)) (plane-has 4 x o l) (plane-has 5 x o l)
+
+  pub plane-once : any (recordCount s) (λ r. any (recordCount s) (clash n m s r)) ≡ false → (x o : ℕ) → x < 2 ^ n → o < m
+      → (has (getD (zerosPlane n order s) x 0) o && has (getD (onesPlane n order s) x 0) o) ≡ false
+  unfolding zerosPlane onesPlane forcedTo0 forcedTo1 forces0 forces1
+  plane-once none x o l k =
+      ap₂ _&&_ (plane-has 4 x o l) (plane-has 5 x o l)
+      ∙ never-both n m s (c .records-good) none (wordOf (inputsTo (n + m) order (n + m)) x) o
+      (word-small n m order (c .order-whole) (c .inputs) (c .outputs) x) k
+
+  line-at : (k x : ℕ) → k < m → x < 2 ^ n → lineAt (zerosPlane n order s) (onesPlane n order s) (outputArray order) k x ≡ tableAt n m order s k x
+  unfolding lineAt tableAt
   line-at k x h l =
-      let ks = numberedField n order s 0 1 in
-      let vs = numberedField n order s 2 3 in
       let o = getD (outputsTo (n + m) order (n + m)) k 0 in
-      ap (lineValue (getD (planeOf ks vs s 4) x 0) (getD (planeOf ks vs s 5) x 0)) (output-at k h)
-      ∙ line-value (getD (planeOf ks vs s 4) x 0) (getD (planeOf ks vs s 5) x 0) o
-      ∙ ap₂ (λ (p q : Bool). cond p 0 (cond q 1 2)) (plane-has 4 x o l) (plane-has 5 x o l)
+      let z = getD (zerosPlane n order s) x 0 in
+      let y = getD (onesPlane n order s) x 0 in
+      ap (lineValue z y) (output-at k h) ∙ line-value z y o ∙ plane-value x o l
 
 pub table-made : (n m : ℕ) (order s : List ℕ) → Accepted n m order s → madeTable n m order s ≡ tableOf n m order s
 unfolding madeTable tableOf
 table-made n m order s c =
-    let ks = numberedField n order s 0 1 in
-    let vs = numberedField n order s 2 3 in
-    rect-ext (lineAt (planeOf ks vs s 4) (planeOf ks vs s 5) (outputArray order)) (tableAt n m order s) m (2 ^ n) (line-at n m order s c)
+    rect-ext (lineAt (zerosPlane n order s) (onesPlane n order s) (outputArray order)) (tableAt n m order s) m (2 ^ n) (line-at n m order s c)
 
 -- what the code's arrays hold after each call
 pub numbered : (n : ℕ) (order s : List ℕ) (lo hi : ℕ) (old is ws : List ℕ) → old ≡ replicate 256 0 → is ≡ inputArray order → ws ≡ fieldArray s lo hi
@@ -194,10 +204,8 @@ pub planed : (ks vs s : List ℕ) (at : ℕ) (old fs plane row : List ℕ) → o
 unfolding planeOf highPlane lowRow
 planed ks vs s at old fs plane row p q e f = rw (e, f, p, q) refl
 
-pub lined : (n m : ℕ) (order s : List ℕ) → Accepted n m order s → (ks vs zs ys os : List ℕ) → ks ≡ numberedField n order s 0 1 → vs ≡ numberedField n order s 2 3
-    → zs ≡ planeOf ks vs s 4
-    → ys ≡ planeOf ks vs s 5
+pub lined : (n m : ℕ) (order s : List ℕ) → Accepted n m order s → (zs ys os : List ℕ) → zs ≡ zerosPlane n order s → ys ≡ onesPlane n order s
     → os ≡ outputArray order
     → rect m (2 ^ n) (lineAt zs ys os) ≡ tableOf n m order s
 unfolding madeTable
-lined n m order s h ks vs zs ys os p q z y o = rw (z, y, o, p, q) (table-made n m order s h)
+lined n m order s h zs ys os z y o = rw (z, y, o) (table-made n m order s h)

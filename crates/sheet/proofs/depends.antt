@@ -1,0 +1,3 @@
+-- Laws of `src/depends.rt`.
+pub mod PlaneDependence
+pub mod TurnedPlaces
