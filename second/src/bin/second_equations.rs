@@ -12,7 +12,7 @@ use std::path::Path;
 use std::process::ExitCode;
 use std::{env, fs, io};
 
-const FAMILIES: [Family; 7] = [
+const FAMILIES: [Family; 10] = [
     Family::SmallOrders,
     Family::SmallFewFree,
     Family::SmallManyFree,
@@ -20,6 +20,9 @@ const FAMILIES: [Family; 7] = [
     Family::Tight,
     Family::Loose,
     Family::FullRows,
+    Family::FullRowsAnywhere,
+    Family::NamedNotDependent,
+    Family::DependentAbove,
 ];
 
 const EQUATIONS_PER_FILE: usize = 20;
