@@ -65,6 +65,12 @@ static void *tabulate(void *unused)
     return unused;
 }
 
+static void *refuse(void *unused)
+{
+    refusal = cascade_sheet_refusal(input[0], input[1], input[2], input[3], order(), variables(), sheet(), sheet_length());
+    return unused;
+}
+
 static void *reduce(void *unused)
 {
     refusal = cascade_reduce(input[0], input[1], input[2], input[3], order(), variables(), sheet(), sheet_length(), widths, nodes)
@@ -120,6 +126,7 @@ int main(void)
         return 2;
     }
     size_t least = used_by(nothing);
+    printf("cascade_sheet_refusal %zu\n", used_by(refuse) - least);
     printf("cascade_sheet_table %zu\n", used_by(tabulate) - least);
     printf("cascade_reduce %zu\n", used_by(reduce) - least);
     printf("cascade_compile %zu\n", used_by(compile) - least);
