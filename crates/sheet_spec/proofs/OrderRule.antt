@@ -110,14 +110,10 @@ module _ (j : Job) (s : List ℕ) (few : j .n ≤ 12) (order : notEachOnce (j .n
     turned-to zero l = refl
     turned-to (suc k) l = turned-to k (omega arith) ∙ turned k l
 
-    value-alike : value s w o ≡ value s v o
-    value-alike =
+    pub value-settled : value s w o ≡ value s v o
+    value-settled =
         let first : w ≡ mixed w v 0 =
         same-bits (j .n) w (mixed w v 0) w< (mixed-small w v (j .n) 0 w< v<) (λ i l. sym (mixed-high w v 0 i (omega arith))) in
         let last : mixed w v (j .n) ≡ v =
         same-bits (j .n) (mixed w v (j .n)) v (mixed-small w v (j .n) (j .n) w< v<) v< (λ i l. mixed-low w v (j .n) i l) in
         ap (λ (x : ℕ). value s x o) first ∙ turned-to (j .n) (omega arith) ∙ ap (λ (x : ℕ). value s x o) last
-
-pub value-settled : (j : Job) (s : List ℕ) → j .n ≤ 12 → notEachOnce (j .n) (j .m) (j .order) ≡ false → refuse6 j s ≡ false → (o w v : ℕ) → o < j .m
-    → ((i : ℕ) → i < j .n → heightOf j (outputByte o) < heightOf j i → bit w i ≡ bit v i) → w < 2 ^ (j .n) → v < 2 ^ (j .n) → value s w o ≡ value s v o
-value-settled j s few order kept o w v o< agree w< v< = value-alike j s few order kept o w v o< agree w< v<
