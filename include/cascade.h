@@ -32,11 +32,12 @@ extern "C" {
 /* refusal is 0 where the job was accepted, else
  *   1  n, m, k or l out of range          2  the order is not each variable once
  *   3  length of the sheet                4  bits of a record
- *   5  two records contradict each other  6  an output stands above an input named for it
+ *   5  two records contradict each other  6  an output stands above an input on which it depends
  *   7  over 512 columns at some height    8  no cut list meets k and l
  *   9  nodes shorter than 3 words a node  10 records shorter than 4 x (n + m)
  *   11 rows shorter than the rows
- * The lowest wins; then the other fields are 0. */
+ * The lowest wins; then the other fields are 0. An output depends on an input where two words that differ in that input
+ * alone give it different values among 0, 1 and free; that a record tests the input is no dependence. */
 typedef struct {
     uint8_t refusal;
     uint16_t nodes;
