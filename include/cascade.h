@@ -62,7 +62,8 @@ cascade_totals cascade_compile(size_t n, size_t m, size_t k, size_t l,
                                uint8_t *rows, size_t rows_length,
                                uint16_t widths[CASCADE_WIDTHS]);
 
-/* The least of refusals 1 to 6 of a job and its sheet; 0 where there is none. */
+/* The least of refusals 1 to 6 of a job and its sheet; 0 where there is none. It makes the table for itself, so it takes
+ * about 45,000 bytes of stack. */
 uint8_t cascade_sheet_refusal(size_t n, size_t m, size_t k, size_t l,
                               const uint8_t *order, size_t order_length,
                               const uint8_t *sheet, size_t sheet_length);
