@@ -2,6 +2,9 @@
 
 use super::function::{Columns, Function, FREE};
 
+/// The numbers of its columns, as they joined.
+pub type Clique = Vec<usize>;
+
 /// "Two columns are compatible if no place holds 0 in one and 1 in the other."
 pub fn compatible(one: &[u8], other: &[u8]) -> bool {
     one.iter()
@@ -22,7 +25,7 @@ fn edges(columns: &Columns, places: usize) -> Vec<Vec<bool>> {
 }
 
 /// The cliques of columns, given which pairs are compatible.
-pub fn cover(edge: &[Vec<bool>]) -> Vec<Vec<usize>> {
+pub fn cover(edge: &[Vec<bool>]) -> Vec<Clique> {
     let mut cliques = Vec::new();
     let mut left: Vec<usize> = (0..edge.len()).collect();
     while !left.is_empty() {
@@ -76,8 +79,9 @@ fn product(columns: &Columns, clique: &[usize]) -> Vec<u8> {
 }
 
 /// The merge at a height, of the function as it stands. With `next_output_only` compatibility is
-/// tested on the topmost output of the columns alone, which is a mistake: see `Mistake`.
-pub fn merge(function: &mut Function, height: usize, next_output_only: bool) {
+/// tested on the topmost output of the columns alone, which is a mistake: see `Mistake`. Answers the
+/// cliques.
+pub fn merge(function: &mut Function, height: usize, next_output_only: bool) -> Vec<Clique> {
     let columns = function.columns(height);
     let whole = columns.tables[0].len();
     let outputs = function.outputs_between(height, 0);
@@ -88,12 +92,13 @@ pub fn merge(function: &mut Function, height: usize, next_output_only: bool) {
     };
     let cliques = cover(&edges(&columns, places));
     // "Every prefix of a clique then takes its product."
-    for clique in cliques {
-        let product = product(&columns, &clique);
+    for clique in &cliques {
+        let product = product(&columns, clique);
         for prefix in 0..function.prefixes(height) {
             if clique.contains(&columns.of_prefix[prefix]) {
                 function.replace_column(height, prefix, &product);
             }
         }
     }
+    cliques
 }

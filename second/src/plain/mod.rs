@@ -9,7 +9,7 @@ mod written;
 use crate::job::{Answer, Job, Lent, Node, Totals};
 use cuts::{rails, sum, Cell, Cutting};
 
-pub use cover::compatible;
+pub use cover::{compatible, Clique};
 pub use function::{Columns, Function, FREE};
 pub use written::nodes;
 
@@ -161,6 +161,22 @@ pub fn widths_before_own_merges(job: &Job) -> Option<Vec<usize>> {
         cover::merge(&mut function, height, false);
     }
     Some(widths)
+}
+
+/// The columns at each height from t-1 down to 1, before its own merge, and the cliques of their cover;
+/// or the refusal, 1 to 7.
+pub fn covers(job: &Job) -> Result<Vec<(Columns, Vec<Clique>)>, u8> {
+    let mut function = sheet::read(job)?;
+    let mut covers = Vec::new();
+    for height in (1..function.top()).rev() {
+        let columns = function.columns(height);
+        if columns.width() > MOST_COLUMNS {
+            return Err(7);
+        }
+        let cliques = cover::merge(&mut function, height, false);
+        covers.push((columns, cliques));
+    }
+    Ok(covers)
 }
 
 /// The refusal 1 to 6, or the table of the sheet: m lines of 2^n values (0, 1, or 2 for free). Line k
