@@ -3,6 +3,7 @@
 mod blocks;
 mod calls;
 mod damaged;
+mod dense;
 mod dependence;
 mod pending;
 mod plain;
@@ -57,6 +58,8 @@ pub enum Family {
     DependentAbove,
     /// n 12, m 8, 256 records that name as in `NamedNotDependent`.
     LimitNamed,
+    /// 512 different columns at some height before its merge, most pairs of them compatible, and a cover of many rounds.
+    ColumnsDense,
 }
 
 impl Family {
@@ -67,7 +70,7 @@ impl Family {
         Family::SmallOrders,
     ];
 
-    pub const ALL: [Family; 17] = [
+    pub const ALL: [Family; 18] = [
         Family::SmallFewFree,
         Family::SmallManyFree,
         Family::SmallOrders,
@@ -85,6 +88,7 @@ impl Family {
         Family::NamedNotDependent,
         Family::DependentAbove,
         Family::LimitNamed,
+        Family::ColumnsDense,
     ];
 
     pub fn name(self) -> &'static str {
@@ -106,6 +110,7 @@ impl Family {
             Family::NamedNotDependent => "named-not-dependent",
             Family::DependentAbove => "dependent-above",
             Family::LimitNamed => "limit-named",
+            Family::ColumnsDense => "columns-dense",
         }
     }
 
@@ -141,6 +146,7 @@ pub fn job(family: Family, seed: u64, index: u64) -> Job {
         Family::NamedNotDependent => dependence::named_not_dependent(random),
         Family::DependentAbove => dependence::dependent_above(random),
         Family::LimitNamed => dependence::limit_named(random),
+        Family::ColumnsDense => dense::dense(random),
     }
 }
 

@@ -86,4 +86,5 @@ fn larger() {
     check(Family::LimitNamed, 25);
     check(Family::FullRowsAnywhere, 300);
     check(Family::NamedNotDependent, 300);
+    check(Family::ColumnsDense, 25);
 }

@@ -131,4 +131,6 @@ fn columns() {
     let over = compare(Family::Columns513, 20);
     assert_eq!(over.keys().collect::<Vec<_>>(), [&7]);
     reached(&compare(Family::ColumnsAround, 15), &[7]);
+    let dense = compare(Family::ColumnsDense, 8);
+    assert!(dense.keys().all(|number| matches!(number, 0 | 9..=11)));
 }

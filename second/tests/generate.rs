@@ -183,6 +183,33 @@ fn column_counts_are_reached() {
     assert!(around.len() > 12, "{around:?}");
 }
 
+/// The least over these jobs: 512 columns, 72.5 % of the pairs compatible, 32 cliques, 28 different numbers of edges.
+#[test]
+fn dense_columns_are_many_and_most_pairs_compatible() {
+    let mut rounds = BTreeSet::new();
+    for index in 0..20 {
+        let covers = plain::covers(&job(Family::ColumnsDense, 1, index));
+        let covers = covers.expect("no refusal 1 to 7");
+        let widest = covers.iter().max_by_key(|(columns, _)| columns.width());
+        let (columns, cliques) = widest.expect("a height");
+        let tables = &columns.tables;
+        let others = tables.len() - 1;
+        let edges = |one: &Vec<u8>| {
+            let compatible = tables.iter().filter(|two| plain::compatible(one, two));
+            compatible.count() - 1
+        };
+        let edges: Vec<usize> = tables.iter().map(edges).collect();
+        let percent = 100 * edges.iter().sum::<usize>() / (tables.len() * others);
+        let different = BTreeSet::from_iter(edges).len();
+        assert_eq!(tables.len(), 512, "{index}");
+        assert!(percent >= 70, "{index}: {percent} %");
+        assert!(cliques.len() >= 32, "{index}: {} cliques", cliques.len());
+        assert!(different >= 20, "{index}: {different}");
+        rounds.insert(cliques.len());
+    }
+    assert!(rounds.len() >= 3, "{rounds:?}");
+}
+
 #[test]
 fn families_at_the_limits_are_both_narrow_and_wide() {
     // Merging keeps sheets with much freedom narrow.

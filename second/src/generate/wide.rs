@@ -6,10 +6,10 @@ use super::sheet::{bytes, named, Record};
 use crate::job::Job;
 
 /// The value of some inputs: mask and values.
-type Cube = (u16, u16);
+pub type Cube = (u16, u16);
 
 /// An output at one value of the selectors.
-type Slot = (u8, u16);
+pub type Slot = (u8, u16);
 
 /// Cubes over `inputs` that together hold exactly the points none of `points` agrees with. Points are values of all `inputs`.
 fn complement(inputs: &[u8], points: &[u16], cube: Cube, found: &mut Vec<Cube>) {
@@ -28,12 +28,12 @@ fn complement(inputs: &[u8], points: &[u16], cube: Cube, found: &mut Vec<Cube>) 
     }
 }
 
-fn mask_of(inputs: &[u8]) -> u16 {
+pub fn mask_of(inputs: &[u8]) -> u16 {
     inputs.iter().map(|input| 1 << input).sum()
 }
 
 /// Spreads the bits of a number over inputs.
-fn spread(inputs: &[u8], number: usize) -> u16 {
+pub fn spread(inputs: &[u8], number: usize) -> u16 {
     let bit = |(place, input): (usize, &u8)| ((number >> place & 1) as u16) << input;
     inputs.iter().enumerate().map(bit).sum()
 }
