@@ -245,6 +245,9 @@ fn columns() {
     assert!(all.keys().eq([&7]), "{all:?}");
     let all = with_fast(Family::ColumnsAround, 500);
     assert!(seen(&all, 0) >= 50 && seen(&all, 7) >= 50, "{all:?}");
+    let all = with_fast(Family::ColumnsDense, 500);
+    let in_order = all.keys().all(|number| matches!(number, 0 | 9..=11));
+    assert!(lent_cases(&all, 20) && in_order, "{all:?}");
 }
 
 /// Document 02, §1: outputs above inputs named for them, on which they depend or not.

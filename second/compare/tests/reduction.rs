@@ -237,6 +237,15 @@ fn columns_around() {
     assert!(seen.count(0) >= 3 && seen.count(7) >= 3, "{seen:?}");
 }
 
+#[test]
+fn columns_dense() {
+    assert!(with_fast(Family::ColumnsDense, 500).only(0));
+    for index in 0..5 {
+        assert_eq!(most_columns(Family::ColumnsDense, index), 512);
+    }
+    assert!(with_plain(Family::ColumnsDense, 5).only(0));
+}
+
 /// Compares a job with both; answers what was made.
 fn both(job: &Job, index: u64) -> Made {
     let made = by_fast(&mut Compiler::new(), job);
