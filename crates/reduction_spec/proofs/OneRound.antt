@@ -16,7 +16,7 @@ use Rattle.laws.specs.Tests.{any, count}
 use Rattle.laws.specs.Lists.{tab}
 use Rattle.laws.specs.Bits.{flag}
 use Rattle.laws.proofs.Bits.{flag-is}
-use Rattle.laws.proofs.Cases.{cond-each, by-test, by-equal, either, last-or-below, and-split}
+use Rattle.laws.proofs.Cases.{cond-each, cond-yes, by-test, by-equal, either, last-or-below, and-split}
 use Rattle.laws.proofs.Tests.{any-none}
 use Rattle.laws.proofs.Counts.{count-none, count-lt, count-max}
 use Rattle.laws.proofs.Lists.{getD-tab}
@@ -105,7 +105,7 @@ module _ (w : ℕ) (graph : List ℕ) where
       by false p q ih = last-or-below d c l (λ k. ap (isIn s) k ∙ last q p) (λ k. ih q k)
 
   -- the candidates that stay when column u joins
-  stays : (s : List ℕ) (u d : ℕ) → d < w → isIn (candidates w graph s u) d ≡ (isIn s d && not (eqb u d) && isIn graph (u * w + d))
+  pub stays : (s : List ℕ) (u d : ℕ) → d < w → isIn (candidates w graph s u) d ≡ (isIn s d && not (eqb u d) && isIn graph (u * w + d))
   unfolding candidates staying linked
   stays s u d h = in-tab (linked w graph s u) w d h
 
@@ -175,6 +175,24 @@ module _ (w : ℕ) (graph : List ℕ) where
       let i = fewest-in es s w (eqb-false u w e) in
       grown-whole left es v n (candidates w graph s u) (set q u 1) (omega (arith, fewer-stay s u (i .0) (i .1)))
       (joins left s q u (i .0) (i .1) p) (put-keeps q u v (omega (arith, p .sized, i .0)) m))
+
+  no-member : (s : List ℕ) (u : ℕ) → count w (isIn s) ≤ 0 → ((u ≡ w → ⊥) → (u < w) × (isIn s u ≡ true)) → eqb u w ≡ true
+  no-member s u l h =
+      by-test (eqb u w) (λ t. t)
+      (λ t. let i = h (eqb-false u w t) in absurd (false≢true (sym (count-none (isIn s) w l u (i .0)) ∙ i .1)))
+
+  -- as many joins as there are candidates are enough
+  pub grown-enough : (es : List ℕ) (n : ℕ) (s q : List ℕ) → count w (isIn s) ≤ n → grown w graph (suc n) es s q ≡ grown w graph n es s q
+  unfolding grown
+  grown-enough es zero s q l =
+      let u = fewest w graph es s w in
+      cond-yes (eqb u w) q _ (no-member s u l (fewest-in es s w))
+  grown-enough es (suc n) s q l =
+      let u = fewest w graph es s w in
+      by-test (eqb u w) (λ t. rw t refl)
+      (λ t.
+      let i = fewest-in es s w (eqb-false u w t) in
+      ap (cond (eqb u w) q) (grown-enough es n (candidates w graph s u) (set q u 1) (omega (arith, fewer-stay s u (i .0) (i .1)))))
 
   -- the clique of a round, where columns are left
   pub clique-whole : (left : List ℕ) → any w (isIn left) ≡ true → (v : ℕ) × (v < w) × Whole left v (clique w graph left)
