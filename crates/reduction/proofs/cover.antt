@@ -1,4 +1,5 @@
 -- Laws of `src/cover.rt`.
+pub mod CliqueLeaves
 pub mod KeySteps
 pub mod KeysGiveCover
 pub mod LeastKey

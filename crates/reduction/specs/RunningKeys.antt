@@ -1,13 +1,14 @@
 -- Keys: what the code of the cover keeps of each column. A column that is left has the key edges * 512 + number, so that the least key is
--- the column with fewest edges, ties to the lowest number; any other has the key gone. That the rounds over keys give the cover is proved.
+-- the column with fewest edges, ties to the lowest number; any other has the key gone. Edges are counted once; when a clique leaves, each
+-- remaining column's edges are lowered by the members compatible with it (document 02, §2). That the rounds over keys give the cover is proved.
 -- Assumes nothing.
 use mathlib.Core.Path.{_≡_}
-use Prim.Native.Nat.{ℕ, zero, suc, _+_, _-_, _*_, _%_, _<_}
-use mathlib.Core.Bool.{cond, _&&_}
+use Prim.Native.Nat.{ℕ, zero, suc, _+_, _-_, _*_, _/_, _%_, _<_, min}
+use mathlib.Core.Bool.{cond}
 use mathlib.Core.List.{List}
-use lib.Dec.{eqb, ltb, leb}
+use lib.Dec.{eqb, ltb}
 use lib.ListN.{getD, set, replicate}
-use Rattle.laws.specs.Tests.{sum}
+use Rattle.laws.specs.Tests.{count, sum}
 use Rattle.laws.specs.Lists.{puts}
 use Rattle.laws.specs.Bits.{flag}
 use Rattle.reduction_spec.specs.Cover.{isIn}
@@ -16,18 +17,12 @@ use Rattle.reduction_spec.specs.Cover.{isIn}
 abbrev pub gone : ℕ
 gone = 4294967295
 
--- the lesser of two keys; the least of the first n keys
-unfoldable pub lesser : ℕ → ℕ → ℕ
-lesser a b = cond (ltb a b) a b
-
+-- the least of the first n keys
 unfoldable pub leastKey : List ℕ → ℕ → ℕ
 leastKey keys zero = gone
-leastKey keys (suc n) = lesser (getD keys n 0) (leastKey keys n)
+leastKey keys (suc n) = min (getD keys n 0) (leastKey keys n)
 
--- a key lowered by an edge, where the flag x is 1; a candidate's key where the flag x is 1, else gone
-unfoldable pub lowered : ℕ → ℕ → ℕ
-lowered x k = cond (eqb x 1 && (leb 512 k && ltb k gone)) (k - 512) k
-
+-- a candidate's key where the flag x is 1, else gone
 unfoldable pub keeping : ℕ → ℕ → ℕ
 keeping x k = cond (eqb x 1) k gone
 
@@ -39,46 +34,63 @@ degree w graph c = sum w (λ d. flag (isIn graph (c * w + d))) - flag (isIn grap
 unfoldable pub firstKey : ℕ → List ℕ → ℕ → ℕ
 firstKey w graph c = degree w graph c * 512 + c
 
--- the keys of the columns left, the keys of the candidates as they stood when the round began, and the cliques' numbers
-pub record Growth : Type 0 where
-  pub keys : List ℕ
-  pub cand : List ℕ
-  pub owner : List ℕ
+-- the key k with j edges fewer: the number of edges, whatever it was, is lowered by j, never below 0; what is gone stays so
+unfoldable pub fewerBy : ℕ → ℕ → ℕ
+fewerBy j k = cond (ltb k gone) ((k / 512 - j) * 512 + k % 512) k
 
--- between rounds there are no candidates
+-- the keys of the candidates as they stood when the round began, and the clique's members, count of them, as they joined
+pub record Growth : Type 0 where
+  pub cand : List ℕ
+  pub members : List ℕ
+  pub count : ℕ
+
+-- between rounds: the keys of the columns left, and the cliques' numbers
 pub record Stand : Type 0 where
   pub keys : List ℕ
   pub owner : List ℕ
 
-module _ (w : ℕ) (graph : List ℕ) where
-  -- the keys when column u leaves; the candidates' keys when it joins
-  unfoldable pub leftKeys : ℕ → List ℕ → List ℕ
-  leftKeys u keys = puts w (λ d. lowered (getD graph (u * w + d) 0) (getD (set keys u gone) d 0)) (set keys u gone)
+-- the list l after v is stored for each of the first n members
+unfoldable pub storedFor : ℕ → ℕ → List ℕ → List ℕ → List ℕ
+storedFor v zero q l = l
+storedFor v (suc n) q l = set (storedFor v n q l) (getD q n 0) v
 
+module _ (w : ℕ) (graph : List ℕ) where
+  -- of the first n members those that are compatible with column c
+  unfoldable pub partners : ℕ → List ℕ → ℕ → ℕ
+  partners n q c = count n (λ i. isIn graph (getD q i 0 * w + c))
+
+  -- from the key of each column the clique's members compatible with it are taken
+  unfoldable pub loweredKeys : ℕ → List ℕ → List ℕ → List ℕ
+  loweredKeys n q keys = puts w (λ c. fewerBy (partners n q c) (getD keys c 0)) keys
+
+  -- the candidates' keys when column u joins
   unfoldable pub keptKeys : ℕ → List ℕ → List ℕ
   keptKeys u cand = set (puts w (λ d. keeping (getD graph (u * w + d) 0) (getD cand d 0)) cand) u gone
 
-  -- column u joins clique g
-  unfoldable pub joining : ℕ → ℕ → Growth → Growth
-  joining g u s = record { keys = leftKeys u (s .keys); cand = keptKeys u (s .cand); owner = set (s .owner) u g }
+  -- column u joins the clique
+  unfoldable pub joining : ℕ → Growth → Growth
+  joining u s = record { cand = keptKeys u (s .cand); members = set (s .members) (s .count) u; count = s .count + 1 }
 
   -- candidates join while there are any (at most n)
-  unfoldable pub growing : ℕ → ℕ → Growth → Growth
-  growing g zero s = s
-  growing g (suc n) s =
+  unfoldable pub growing : ℕ → Growth → Growth
+  growing zero s = s
+  growing (suc n) s =
       let k = leastKey (s .cand) w in
-      let r = growing g n (joining g (k % 512) s) in
+      let r = growing n (joining (k % 512) s) in
       cond (eqb k gone) s r
 
-  -- the round of clique g, where k is the least key: a column without edges is a clique of its own
+  -- the round of clique g, where k is the least key: a column without edges is a clique of its own, and nothing is lowered
   unfoldable pub alone : ℕ → ℕ → Stand → Stand
   alone g k s = record { keys = set (s .keys) (k % 512) gone; owner = set (s .owner) (k % 512) g }
 
   unfoldable pub opened : ℕ → Stand → Stand
   opened g s =
       let cand = puts w (λ c. getD (s .keys) c 0) (replicate 512 0) in
-      let r = growing g (suc w) (record { keys = s .keys; cand = cand; owner = s .owner }) in
-      record { keys = r .keys; owner = r .owner }
+      let r = growing w (record { cand = cand; members = replicate 512 0; count = 0 }) in
+      record {
+        keys = loweredKeys (r .count) (r .members) (storedFor gone (r .count) (r .members) (s .keys));
+        owner = storedFor g (r .count) (r .members) (s .owner);
+      }
 
   unfoldable pub turn : ℕ → ℕ → Stand → Stand
   turn g k s = cond (ltb k 512) (alone g k s) (opened g s)

@@ -1,7 +1,7 @@
 -- The rounds over keys give the cover: a clique grown over keys is the clique, and the numbers after all rounds are the cover's.
 -- Assumes nothing.
 use mathlib.Core.Path.{_≡_, refl, sym, _∙_, ap, ap₂}
-use mathlib.Core.Bool.{Bool, true, false, cond, not, _&&_}
+use mathlib.Core.Bool.{Bool, true, false, cond, not, _&&_, _||_, or-true, or-false, true≢false}
 use mathlib.Core.List.{List}
 use Prim.Native.Nat.{ℕ, zero, suc, _+_, _*_, _%_, _<_, _≤_}
 use native.Mathlib.Omega.{arith}
@@ -13,51 +13,27 @@ use lib.Seq.{getD-set-same, getD-set-other}
 use Rattle.laws.specs.Tests.{any, count}
 use Rattle.laws.specs.Bits.{flag}
 use Rattle.laws.specs.Lists.{tab, puts}
-use Rattle.laws.proofs.Cases.{by-equal, by-less, either, cond-yes, cond-no, and-split, and-join}
-use Rattle.laws.proofs.Tests.{any-none, any-of}
+use Rattle.laws.proofs.Cases.{by-equal, by-less, either, cond-yes, cond-no, and-split}
+use Rattle.laws.proofs.Tests.{any-none, any-of, any-out, any-ext, any-next}
 use Rattle.laws.proofs.Counts.{count-max, count-none}
 use Rattle.laws.proofs.Lists.{getD-tab}
 use Rattle.laws.proofs.Puts.{length-puts, stored}
 use Rattle.reduction_spec.specs.Cover.{isIn, linked, edges, fewest, candidates, grown, clique, leave, owned, rounds, cover}
-use Rattle.reduction.specs.RunningKeys.{gone, lowered, keeping, leastKey, degree, firstKey, Growth, Stand, leftKeys, keptKeys, joining, growing, turn, turns, Mutual}
-use Rattle.reduction_spec.proofs.OneRound.{in-tab, in-all, put-other}
+use Rattle.reduction.specs.RunningKeys.{gone, keeping, leastKey, degree, firstKey, Growth, Stand, loweredKeys, storedFor, keptKeys, joining, growing, turn, turns, Mutual}
+use Rattle.reduction_spec.proofs.OneRound.{in-tab, in-all, put-other, stays, grown-enough}
 use Rattle.reduction.proofs.cover.KeySteps.{turn-alone, turn-opened}
 use Rattle.reduction.proofs.cover.LeastKey.{key, Keyed, least-found, fewest-empty}
-use Rattle.reduction.proofs.cover.RunningCounts.{count-but, sum-flags, near, among, Running, running-ext, running-same, leave-one, lowers-none, stays, keep-one}
-
-and-no : (b : Bool) → (b && false) ≡ false
-and-no true = refl
-and-no false = refl
-
-and-yes : (b : Bool) → b ≡ (b && true)
-and-yes true = refl
-and-yes false = refl
+use Rattle.reduction.proofs.cover.RunningCounts.{count-but, sum-flags, near, among, Running, running-ext, rest, Members, leave-clique, leave-lone, stored-at, stored-length, lowered-length, keep-one}
 
 -- the columns left without those of the clique q
 abbrev remain : List ℕ → List ℕ → ℕ → Bool
 remain left q c = isIn left c && not (isIn q c)
-
-long-left : (w : ℕ) (graph keys : List ℕ) (u : ℕ) → length (leftKeys w graph u keys) ≡ length keys
-unfolding leftKeys
-long-left w graph keys u =
-    length-puts (λ d. lowered (getD graph (u * w + d) 0) (getD (set keys u gone) d 0)) w (set keys u gone) ∙ length-set keys u gone
 
 long-kept : (w : ℕ) (graph cand : List ℕ) (u : ℕ) → length (keptKeys w graph u cand) ≡ length cand
 unfolding keptKeys
 long-kept w graph cand u =
     let f : ℕ → ℕ = λ d. keeping (getD graph (u * w + d) 0) (getD cand d 0) in
     length-set (puts w f cand) u gone ∙ length-puts f w cand
-
--- the state of a growing clique q with the candidates s, in the round of clique g that began with the columns left and the numbers old
-record Grows (w : ℕ) (graph left old : List ℕ) (g : ℕ) (s q : List ℕ) (r : Growth) : Type 0 where
-  keyed : Keyed w (λ c. getD (tab w (edges w graph left)) c 0) (isIn s) (r .cand)
-  running : Running w graph (remain left q) (r .keys)
-  numbers : (c : ℕ) → c < w → getD (r .owner) c 0 ≡ cond (isIn q c) g (getD old c 0)
-  within : (c : ℕ) → c < w → isIn s c ≡ true → remain left q c ≡ true
-  sized : length q ≡ w
-  keys-long : w ≤ length (r .keys)
-  cand-long : w ≤ length (r .cand)
-  owner-long : w ≤ length (r .owner)
 
 -- the state between rounds: the columns left, and the numbers of those that left
 record Stands (w : ℕ) (graph left owner : List ℕ) (r : Stand) : Type 0 where
@@ -82,70 +58,98 @@ module _ (w : ℕ) (graph : List ℕ) (both : Mutual w graph) (wide : w ≤ 512)
   few-most : (left : List ℕ) (c : ℕ) → c < w → getD (tab w (edges w graph left)) c 0 ≤ 512
   few-most left c h = omega (arith, few left c h, count-max (near w graph (isIn left) c) w)
 
-  module _ (left old : List ℕ) (g : ℕ) where
+  -- the state of a growing clique q with the candidates s, in a round that began with the columns left
+  record Grows (left s q : List ℕ) (r : Growth) : Type 0 where
+    keyed : Keyed w (λ c. getD (tab w (edges w graph left)) c 0) (isIn s) (r .cand)
+    members : Members w graph (isIn left) (r .members) (r .count)
+    flags : (c : ℕ) → c < w → any (r .count) (λ i. eqb (getD (r .members) i 0) c) ≡ isIn q c
+    within : (c : ℕ) → c < w → isIn s c ≡ true → isIn left c ≡ true
+    fresh : (c : ℕ) → c < w → isIn s c ≡ true → isIn q c ≡ false
+    sized : length q ≡ w
+    cand-long : w ≤ length (r .cand)
+    room : length (r .members) ≡ 512
+
+  module _ (left : List ℕ) where
     abbrev es : List ℕ
     es = tab w (edges w graph left)
 
     -- a candidate joins
-    joins : (s q : List ℕ) (r : Growth) (u : ℕ) → u < w → isIn s u ≡ true → Grows w graph left old g s q r
-        → Grows w graph left old g (candidates w graph s u) (set q u 1) (joining w graph g u r)
+    joins : (s q : List ℕ) (r : Growth) (u : ℕ) → u < w → r .count < 512 → isIn s u ≡ true → Grows left s q r
+        → Grows left (candidates w graph s u) (set q u 1) (joining w graph u r)
     unfolding joining
-    joins s q r u h m p =
+    joins s q r u h space m p =
         record {
           keyed = keep-one w graph (λ c. getD es c 0) s (r .cand) u h (p .cand-long) (p .keyed);
-          running = leave-one w graph both wide (remain left q) (remain left (set q u 1)) u h (p .within u h m) less (r .keys) (p .keys-long) (p .running);
-          numbers = numbers′;
-          within = within′;
+          members = record { low = low′; inside = inside′; apart = apart′ };
+          flags = flags′;
+          within = λ c l e. p .within c l (was c l e .0);
+          fresh = λ c l e. put-other q u c (was c l e .1) ∙ p .fresh c l (was c l e .0);
           sized = length-set q u 1 ∙ p .sized;
-          keys-long = omega (arith, long-left w graph (r .keys) u, p .keys-long);
           cand-long = omega (arith, long-kept w graph (r .cand) u, p .cand-long);
-          owner-long = omega (arith, length-set (r .owner) u g, p .owner-long);
+          room = length-set (r .members) (r .count) u ∙ p .room;
         }
       where
-        fits : u < length q
-        fits = omega (arith, p .sized)
+        ms : List ℕ
+        ms = set (r .members) (r .count) u
 
-        self : (c : ℕ) → c ≡ u → isIn (set q u 1) c ≡ true
-        self c e = ap (isIn (set q u 1)) e ∙ ap (λ (v : ℕ). eqb v 1) (getD-set-same q u 1 0 fits)
+        new : getD ms (r .count) 0 ≡ u
+        new = getD-set-same (r .members) (r .count) u 0 (omega (arith, p .room))
 
-        less : (c : ℕ) → c < w → remain left (set q u 1) c ≡ (remain left q c && not (eqb u c))
-        less c l =
-            by-equal c u
-            (λ e.
-            ap (λ (b : Bool). isIn left c && not b) (self c e) ∙ and-no (isIn left c)
-            ∙ sym (ap (λ (b : Bool). remain left q c && not b) (eq-eqb u c (sym e)) ∙ and-no (remain left q c)))
-            (λ n.
-            ap (λ (b : Bool). isIn left c && not b) (put-other q u c n) ∙ and-yes (remain left q c)
-            ∙ sym (ap (λ (b : Bool). remain left q c && not b) (ne-eqb u c (λ x. n (sym x)))))
+        old : (i : ℕ) → i < r .count → getD ms i 0 ≡ getD (r .members) i 0
+        old i l = getD-set-other (r .members) (r .count) i u 0 (λ e. absurd (omega arith))
 
-        numbers′ : (c : ℕ) → c < w → getD (set (r .owner) u g) c 0 ≡ cond (isIn (set q u 1) c) g (getD old c 0)
-        numbers′ c l =
-            by-equal c u
-            (λ e.
-            ap (λ (i : ℕ). getD (set (r .owner) u g) i 0) e ∙ getD-set-same (r .owner) u g 0 (omega (arith, p .owner-long))
-            ∙ sym (cond-yes (isIn (set q u 1) c) g (getD old c 0) (self c e)))
-            (λ n. getD-set-other (r .owner) u c g 0 n ∙ p .numbers c l ∙ ap (λ (b : Bool). cond b g (getD old c 0)) (sym (put-other q u c n)))
-
-        within′ : (c : ℕ) → c < w → isIn (candidates w graph s u) c ≡ true → remain left (set q u 1) c ≡ true
-        within′ c l e =
+        -- a candidate that stays was one, and is not u
+        was : (c : ℕ) → c < w → isIn (candidates w graph s u) c ≡ true → (isIn s c ≡ true) × (c ≡ u → ⊥)
+        was c l e =
             let t = and-split (isIn s c && not (eqb u c)) (isIn graph (u * w + c)) (sym (stays w graph s u c l) ∙ e) .0 in
             let i = and-split (isIn s c) (not (eqb u c)) t in
-            less c l ∙ and-join (p .within c l (i .0)) (i .1)
+            (i .0, λ z. absurd (true≢false (sym (i .1) ∙ ap not (eq-eqb u c (sym z)))))
+
+        low′ : (i : ℕ) → i < r .count + 1 → getD ms i 0 < w
+        low′ i l = by-less i (r .count) (λ k. omega (arith, old i k, p .members .low i k)) (λ k. let e : i ≡ r .count = omega arith in omega (arith, ap (λ (x : ℕ). getD ms x 0) e, new))
+
+        inside′ : (i : ℕ) → i < r .count + 1 → isIn left (getD ms i 0) ≡ true
+        inside′ i l =
+            by-less i (r .count) (λ k. ap (isIn left) (old i k) ∙ p .members .inside i k)
+            (λ k. let e : i ≡ r .count = omega arith in ap (isIn left) (ap (λ (x : ℕ). getD ms x 0) e ∙ new) ∙ p .within u h m)
+
+        apart′ : (i k : ℕ) → i < k → k < r .count + 1 → getD ms i 0 ≡ getD ms k 0 → ⊥
+        apart′ i k l b e =
+            by-less k (r .count) (λ c. p .members .apart i k l c (sym (old i (omega arith)) ∙ e ∙ old k c))
+            (λ c.
+            let last : k ≡ r .count = omega arith in
+            let same : getD (r .members) i 0 ≡ u = sym (old i (omega arith)) ∙ e ∙ ap (λ (x : ℕ). getD ms x 0) last ∙ new in
+            absurd
+            (true≢false
+            (sym (eq-eqb (getD (r .members) i 0) u same)
+            ∙ any-out (λ i. eqb (getD (r .members) i 0) u) (r .count) (p .flags u h ∙ p .fresh u h m) i (omega arith))))
+
+        flags′ : (c : ℕ) → c < w → any (r .count + 1) (λ i. eqb (getD ms i 0) c) ≡ isIn (set q u 1) c
+        flags′ c l =
+            any-next (λ i. eqb (getD ms i 0) c) (r .count)
+            ∙ ap₂ _||_
+            (any-ext (λ i. eqb (getD ms i 0) c) (λ i. eqb (getD (r .members) i 0) c) (r .count) (λ i k. ap (λ (x : ℕ). eqb x c) (old i k)) ∙ p .flags c l)
+            (ap (λ (x : ℕ). eqb x c) new)
+            ∙ by-equal c u
+            (λ e.
+            ap (λ (b : Bool). isIn q c || b) (eq-eqb u c (sym e)) ∙ or-true (isIn q c)
+            ∙ sym (ap (isIn (set q u 1)) e ∙ ap (λ (v : ℕ). eqb v 1) (getD-set-same q u 1 0 (omega (arith, p .sized)))))
+            (λ e. ap (λ (b : Bool). isIn q c || b) (ne-eqb u c (λ z. e (sym z))) ∙ or-false (isIn q c) ∙ sym (put-other q u c e))
 
     -- a clique grown, with whatever candidates remain
     abbrev Ends : List ℕ → Growth → Type 0
-    Ends q r = (s : List ℕ) × Grows w graph left old g s q r
+    Ends q r = (s : List ℕ) × Grows left s q r
 
     ends-is : {q q′ : List ℕ} {r r′ : Growth} → q ≡ q′ → r ≡ r′ → Ends q′ r′ → Ends q r
     ends-is p e f = rw (p, e) f
 
-    grows : (n : ℕ) (s q : List ℕ) (r : Growth) → Grows w graph left old g s q r → Ends (grown w graph n es s q) (growing w graph g n r)
-    unfolding grown growing
-    grows zero s q r p = (s, p)
-    grows (suc n) s q r p =
+    grows : (n : ℕ) (s q : List ℕ) (r : Growth) → r .count + n ≤ 512 → Grows left s q r → Ends (grown w graph n es s q) (growing w graph n r)
+    unfolding grown growing joining
+    grows zero s q r space p = (s, p)
+    grows (suc n) s q r space p =
         let u = fewest w graph es s w in
         let k = leastKey (r .cand) w in
-        let r′ = growing w graph g n (joining w graph g (k % 512) r) in
+        let r′ = growing w graph n (joining w graph (k % 512) r) in
         let q′ = grown w graph n es (candidates w graph s u) (set q u 1) in
         either (least-found w graph es s (r .cand) wide (few-most left) (p .keyed) w (omega arith))
         (λ f. ends-is (cond-yes (eqb u w) q q′ (eq-eqb u w (f .0))) (cond-yes (eqb k gone) r r′ (eq-eqb k gone (f .1))) (s, p))
@@ -155,8 +159,8 @@ module _ (w : ℕ) (graph : List ℕ) (both : Mutual w graph) (wide : w ≤ 512)
         let column : k % 512 ≡ u = ap (λ (x : ℕ). x % 512) (f .2) ∙ digits-mod (getD es u 0) (omega arith) in
         ends-is (cond-no (eqb u w) q q′ (ne-eqb u w (λ e. absurd (omega arith))))
         (cond-no (eqb k gone) r r′ (ne-eqb k gone (λ e. absurd (omega (arith, f .2))))
-        ∙ ap (λ (x : ℕ). growing w graph g n (joining w graph g x r)) column)
-        (grows n (candidates w graph s u) (set q u 1) (joining w graph g u r) (joins s q r u h (f .1) p)))
+        ∙ ap (λ (x : ℕ). growing w graph n (joining w graph x r)) column)
+        (grows n (candidates w graph s u) (set q u 1) (joining w graph u r) (omega arith) (joins s q r u h (omega arith) (f .1) p)))
 
   -- a round begins
   module _ (left owner : List ℕ) (r : Stand) (p : Stands w graph left owner r) where
@@ -167,43 +171,50 @@ module _ (w : ℕ) (graph : List ℕ) (both : Mutual w graph) (wide : w ≤ 512)
     none = replicate w 0
 
     start : Growth
-    start = record { keys = r .keys; cand = puts w (λ c. getD (r .keys) c 0) (replicate 512 0); owner = r .owner }
+    start = record { cand = puts w (λ c. getD (r .keys) c 0) (replicate 512 0); members = replicate 512 0; count = 0 }
 
     none-in : (c : ℕ) → c < w → isIn none c ≡ false
     none-in c h = ap (λ (v : ℕ). eqb v 1) (getD-replicate w c 0 0 h)
 
-    all : (c : ℕ) → c < w → isIn left c ≡ remain left none c
-    all c h = and-yes (isIn left c) ∙ ap (λ (b : Bool). isIn left c && not b) (sym (none-in c h))
-
     keyed-left : Keyed w (λ c. getD edged c 0) (isIn left) (r .keys)
     keyed-left c h = p .running c h ∙ ap (λ (e : ℕ). key (isIn left c) e c) (sym (few left c h))
 
-    begins : (g : ℕ) → Grows w graph left (r .owner) g left none start
+    begins : Grows left left none start
     unfolding start
-    begins g =
+    begins =
         let f : ℕ → ℕ = λ c. getD (r .keys) c 0 in
         record {
           keyed = λ c h. stored 512 w f c wide h ∙ keyed-left c h;
-          running = running-ext w graph (isIn left) (remain left none) (r .keys) all (p .running);
-          numbers = λ c h. sym (cond-no (isIn none c) g (getD (r .owner) c 0) (none-in c h));
-          within = λ c h e. sym (all c h) ∙ e;
+          members = record { low = λ i l. absurd (omega arith); inside = λ i l. absurd (omega arith); apart = λ i k a b. absurd (omega arith) };
+          flags = λ c h. sym (none-in c h);
+          within = λ c h e. e;
+          fresh = λ c h e. none-in c h;
           sized = length-replicate w 0;
-          keys-long = p .keys-long;
           cand-long = omega (arith, length-puts f w (replicate 512 0), length-replicate {A = ℕ} 512 0);
-          owner-long = p .owner-long;
+          room = length-replicate {A = ℕ} 512 0;
         }
 
-    -- and ends
-    ends : (g : ℕ) (q s : List ℕ) (x : Growth) → Grows w graph left (r .owner) g s q x
-        → Stands w graph (leave w graph left q) (owned w graph owner q g) (record { keys = x .keys; owner = x .owner })
+    -- the clique q leaves, of which x holds the members: each round begins with the edges among the columns left
+    ends : (g : ℕ) (q s : List ℕ) (x : Growth) → Grows left s q x
+        → Stands w graph (leave w graph left q) (owned w graph owner q g)
+        (record {
+          keys = loweredKeys w graph (x .count) (x .members) (storedFor gone (x .count) (x .members) (r .keys));
+          owner = storedFor g (x .count) (x .members) (r .owner);
+        })
     unfolding leave owned
     ends g q s x e =
+        let marked = storedFor gone (x .count) (x .members) (r .keys) in
+        let after = loweredKeys w graph (x .count) (x .members) marked in
         record {
-          running = running-ext w graph (remain left q) (isIn (leave w graph left q)) (x .keys) (λ d l. sym (in-tab (remain left q) w d l)) (e .running);
-          numbers = λ c h. e .numbers c h ∙ ap (λ (v : ℕ). cond (isIn q c) g v) (p .numbers c h)
+          running = running-ext w graph (rest w graph (isIn left) (x .members) (x .count)) (isIn (leave w graph left q)) after
+              (λ d l. ap (λ (b : Bool). isIn left d && not b) (e .flags d l) ∙ sym (in-tab (remain left q) w d l))
+              (leave-clique w graph (isIn left) (x .members) both wide (x .count) (e .members) (r .keys) (p .keys-long) (p .running));
+          numbers = λ c h.
+              stored-at w graph (isIn left) (x .members) g (x .count) (e .members) (r .owner) (p .owner-long) c h
+              ∙ ap₂ (λ (b : Bool) (v : ℕ). cond b g v) (e .flags c h) (p .numbers c h)
               ∙ sym (getD-tab (λ d. cond (isIn q d) g (getD owner d 0)) 0 w c h);
-          keys-long = e .keys-long;
-          owner-long = e .owner-long;
+          keys-long = omega (arith, lowered-length w graph (x .count) (x .members) marked, stored-length gone (x .count) (x .members) (r .keys), p .keys-long);
+          owner-long = omega (arith, stored-length g (x .count) (x .members) (r .owner), p .owner-long);
         }
 
     module _ (g k u : ℕ) (first : fewest w graph edged left w ≡ u) (h : u < w) (m : isIn left u ≡ true) (least : k ≡ getD edged u 0 * 512 + u) where
@@ -220,42 +231,56 @@ module _ (w : ℕ) (graph : List ℕ) (both : Mutual w graph) (wide : w ≤ 512)
           ap (λ (v : ℕ). grown w graph w edged (candidates w graph left v) (set none v 1)) first
           ∙ grown-empty w graph edged (candidates w graph left u) (set none u 1) w (λ d l. stays w graph left u d l ∙ lone d l)
 
-      opened-clique : clique w graph left ≡ grown w graph (suc w) edged left none
+      opened-once : clique w graph left ≡ grown w graph (suc w) edged left none
       unfolding clique grown
-      opened-clique =
+      opened-once =
           let v = fewest w graph edged left w in
           sym (cond-no (eqb v w) none (grown w graph w edged (candidates w graph left v) (set none v 1)) (ne-eqb v w (λ e. absurd (omega arith))))
 
-      -- the round of a column without edges
+      opened-clique : clique w graph left ≡ grown w graph w edged left none
+      opened-clique = opened-once ∙ grown-enough w graph edged w left none (count-max (isIn left) w)
+
+      only : (d : ℕ) → d < w → isIn (set none u 1) d ≡ eqb u d
+      only d d< =
+          by-equal d u
+          (λ e.
+          ap (isIn (set none u 1)) e ∙ ap (λ (v : ℕ). eqb v 1) (getD-set-same none u 1 0 (omega (arith, length-replicate {A = ℕ} w 0))) ∙ sym (eq-eqb u d (sym e)))
+          (λ e. put-other none u d e ∙ none-in d d< ∙ sym (ne-eqb u d (λ z. e (sym z))))
+
+      -- the round of a column without edges: nothing is lowered
       single : k < 512 → Stands w graph (leave w graph left (clique w graph left)) (owned w graph owner (clique w graph left) g) (turn w graph g k r)
-      unfolding joining start
+      unfolding leave owned
       single l =
           let few-u : among w graph (isIn left) u ≤ 0 = omega (arith, few left u h) in
           let lone : (d : ℕ) → d < w → near w graph (isIn left) u d ≡ false = count-none (near w graph (isIn left) u) w few-u in
           let q : List ℕ = set none u 1 in
-          let x : Growth = record { keys = set (r .keys) u gone; cand = keptKeys w graph u (start .cand); owner = set (r .owner) u g } in
-          let j = joins left (r .owner) g left none start u h m (begins g) in
-          let e : Grows w graph left (r .owner) g (candidates w graph left u) q x =
+          let after : Stands w graph (leave w graph left q) (owned w graph owner q g) (record { keys = set (r .keys) u gone; owner = set (r .owner) u g }) =
           record {
-            keyed = j .keyed;
-            running = running-same w graph (remain left q) (leftKeys w graph u (r .keys)) (set (r .keys) u gone)
-                (lowers-none w graph (isIn left) u h (r .keys) (p .keys-long) (p .running) lone) (j .running);
-            numbers = j .numbers;
-            within = j .within;
-            sized = j .sized;
+            running = leave-lone w graph both (isIn left) (isIn (leave w graph left q)) u h m
+                (λ d d<. in-tab (remain left q) w d d< ∙ ap (λ (b : Bool). isIn left d && not b) (only d d<)) (r .keys) (p .keys-long) (p .running) lone;
+            numbers = numbers′ q;
             keys-long = omega (arith, length-set (r .keys) u gone, p .keys-long);
-            cand-long = j .cand-long;
-            owner-long = j .owner-long;
+            owner-long = omega (arith, length-set (r .owner) u g, p .owner-long);
           } in
-          turned (lone-clique lone) (sym (turn-alone w graph g k u r l (sym column))) (ends g q (candidates w graph left u) x e)
+          turned (lone-clique lone) (sym (turn-alone w graph g k u r l (sym column))) after
+        where
+          numbers′ : (q : List ℕ) → (c : ℕ) → c < w → getD (set (r .owner) u g) c 0 ≡ getD (tab w (λ d. cond (isIn (set none u 1) d) g (getD owner d 0))) c 0
+          numbers′ q c c< =
+              by-equal c u
+              (λ e.
+              ap (λ (i : ℕ). getD (set (r .owner) u g) i 0) e ∙ getD-set-same (r .owner) u g 0 (omega (arith, p .owner-long))
+              ∙ sym (getD-tab (λ d. cond (isIn (set none u 1) d) g (getD owner d 0)) 0 w c c< ∙ cond-yes (isIn (set none u 1) c) g (getD owner c 0) (only c c< ∙ eq-eqb u c (sym e))))
+              (λ e.
+              getD-set-other (r .owner) u c g 0 e ∙ p .numbers c c<
+              ∙ sym (getD-tab (λ d. cond (isIn (set none u 1) d) g (getD owner d 0)) 0 w c c< ∙ cond-no (isIn (set none u 1) c) g (getD owner c 0) (only c c< ∙ ne-eqb u c (λ z. e (sym z)))))
 
       -- of a column with edges
       several : 512 ≤ k → Stands w graph (leave w graph left (clique w graph left)) (owned w graph owner (clique w graph left) g) (turn w graph g k r)
       unfolding start
       several l =
-          let e = grows left (r .owner) g (suc w) left none start (begins g) in
-          let x : Growth = growing w graph g (suc w) start in
-          turned opened-clique (sym (turn-opened w graph g k r (start .cand) x l refl refl)) (ends g (grown w graph (suc w) edged left none) (e .0) x (e .1))
+          let e = grows left w left none start (omega arith) begins in
+          let x : Growth = growing w graph w start in
+          turned opened-clique (sym (turn-opened w graph g k r (start .cand) x l refl refl)) (ends g (grown w graph w edged left none) (e .0) x (e .1))
 
   -- all rounds
   turns-are : (n g : ℕ) (left owner : List ℕ) (r : Stand) → Stands w graph left owner r → (c : ℕ) → c < w

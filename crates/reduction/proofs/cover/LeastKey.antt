@@ -4,7 +4,7 @@ use mathlib.Core.Path.{_≡_, refl, _∙_, ap, ap₂}
 use mathlib.Core.Logic.{_⊎_, inl, inr}
 use mathlib.Core.Bool.{Bool, true, false, cond, _&&_, _||_}
 use mathlib.Core.List.{List}
-use Prim.Native.Nat.{ℕ, zero, suc, _+_, _*_, _<_, _≤_}
+use Prim.Native.Nat.{ℕ, zero, suc, _+_, _*_, _<_, _≤_, min}
 use native.Mathlib.Nat.{not-suc-le-zero}
 use native.Mathlib.Omega.{arith}
 use borrow.Author.Tests.{eq-eqb, ne-eqb, lt-ltb, le-ltb}
@@ -12,7 +12,7 @@ use lib.Dec.{eqb, ltb}
 use lib.ListN.{getD}
 use Rattle.laws.proofs.Cases.{by-test, by-less, either, last-or-below, cond-yes, cond-no, and-left-no}
 use Rattle.reduction_spec.specs.Cover.{isIn, fewer, fewest}
-use Rattle.reduction.specs.RunningKeys.{gone, lesser, leastKey}
+use Rattle.reduction.specs.RunningKeys.{gone, leastKey}
 
 -- the key of column c with e edges, where it is a member
 abbrev pub key : Bool → ℕ → ℕ → ℕ
@@ -30,19 +30,11 @@ Found w es s n k u =
 found-is : (w : ℕ) (es s : List ℕ) (n : ℕ) {k k′ u u′ : ℕ} → k ≡ k′ → u ≡ u′ → Found w es s n k′ u′ → Found w es s n k u
 found-is w es s n p q f = rw (p, q) f
 
-lesser-left : (a b : ℕ) → a < b → lesser a b ≡ a
-unfolding lesser
-lesser-left a b h = cond-yes (ltb a b) a b (lt-ltb a b h)
-
-lesser-right : (a b : ℕ) → b ≤ a → lesser a b ≡ b
-unfolding lesser
-lesser-right a b h = cond-no (ltb a b) a b (le-ltb a b h)
-
 module _ (w : ℕ) (graph : List ℕ) (es s keys : List ℕ) (wide : w ≤ 512) (few : (c : ℕ) → c < w → getD es c 0 ≤ 512)
     (keyed : Keyed w (λ c. getD es c 0) (isIn s) keys) where
   -- one column more
   step : (n k b : ℕ) → n < w → Found w es s n k b
-      → Found w es s (suc n) (lesser (getD keys n 0) k) (cond (isIn s n && (eqb b w || ltb (getD es n 0) (getD es b 0))) n b)
+      → Found w es s (suc n) (min (getD keys n 0) k) (cond (isIn s n && (eqb b w || ltb (getD es n 0) (getD es b 0))) n b)
   step n k b h f = by-test (isIn s n) member other
     where
       a : ℕ
@@ -52,15 +44,15 @@ module _ (w : ℕ) (graph : List ℕ) (es s keys : List ℕ) (wide : w ≤ 512) 
       less = ltb (getD es n 0) (getD es b 0)
 
       taken : (isIn s n && (eqb b w || less)) ≡ true → a < k → isIn s n ≡ true → a ≡ getD es n 0 * 512 + n
-          → Found w es s (suc n) (lesser a k) (cond (isIn s n && (eqb b w || less)) n b)
+          → Found w es s (suc n) (min a k) (cond (isIn s n && (eqb b w || less)) n b)
       taken t l m e =
-          found-is w es s (suc n) (lesser-left a k l) (cond-yes (isIn s n && (eqb b w || less)) n b t) (inr (omega arith, m, e))
+          found-is w es s (suc n) (omega arith) (cond-yes (isIn s n && (eqb b w || less)) n b t) (inr (omega arith, m, e))
 
       passed : (isIn s n && (eqb b w || less)) ≡ false → k ≤ a → Found w es s (suc n) k b
-          → Found w es s (suc n) (lesser a k) (cond (isIn s n && (eqb b w || less)) n b)
-      passed t l r = found-is w es s (suc n) (lesser-right a k l) (cond-no (isIn s n && (eqb b w || less)) n b t) r
+          → Found w es s (suc n) (min a k) (cond (isIn s n && (eqb b w || less)) n b)
+      passed t l r = found-is w es s (suc n) (omega arith) (cond-no (isIn s n && (eqb b w || less)) n b t) r
 
-      member : isIn s n ≡ true → Found w es s (suc n) (lesser a k) (cond (isIn s n && (eqb b w || less)) n b)
+      member : isIn s n ≡ true → Found w es s (suc n) (min a k) (cond (isIn s n && (eqb b w || less)) n b)
       member m =
           let e : a ≡ getD es n 0 * 512 + n = keyed n h ∙ cond-yes (isIn s n) (getD es n 0 * 512 + n) gone m in
           let u = few n h in
@@ -76,7 +68,7 @@ module _ (w : ℕ) (graph : List ℕ) (es s keys : List ℕ) (wide : w ≤ 512) 
           passed (ap₂ (λ (x y : Bool). x && y) m (ap₂ (λ (x y : Bool). x || y) no (le-ltb (getD es n 0) (getD es b 0) l))) (omega (arith, r .0, r .2))
           (inr (omega (arith, r .0), r .1, r .2))))
 
-      other : isIn s n ≡ false → Found w es s (suc n) (lesser a k) (cond (isIn s n && (eqb b w || less)) n b)
+      other : isIn s n ≡ false → Found w es s (suc n) (min a k) (cond (isIn s n && (eqb b w || less)) n b)
       other m =
           let e : a ≡ gone = keyed n h ∙ cond-no (isIn s n) (getD es n 0 * 512 + n) gone m in
           let no = and-left-no (isIn s n) (eqb b w || less) m in

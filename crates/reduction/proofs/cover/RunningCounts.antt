@@ -1,26 +1,35 @@
--- Keys that hold running counts of edges: when a column leaves, the keys lowered along its line of the graph count the edges among the
--- columns that remain; and the candidates' keys when a column joins.
+-- Keys that hold running counts of edges: when a clique leaves, the keys lowered by it count the edges among the columns that remain; and the
+-- candidates' keys when a column joins.
 -- Assumes nothing.
 use mathlib.Core.Path.{_≡_, refl, sym, _∙_, ap, ap₂}
-use mathlib.Core.Bool.{Bool, true, false, not, _&&_}
+use mathlib.Core.Bool.{Bool, true, false, not, cond, _&&_, _||_, and-true, and-false, or-true, or-false}
 use mathlib.Core.List.{List}
 use Prim.Native.Nat.{ℕ, zero, suc, _+_, _-_, _*_, _<_, _≤_}
 use native.Mathlib.Nat.{not-suc-le-zero}
 use native.Mathlib.Omega.{arith}
-use borrow.Author.Tests.{eq-eqb, ne-eqb, lt-ltb, le-leb, ltb-true}
-use lib.Dec.{eqb, ltb, leb}
+use borrow.Author.Tests.{eq-eqb, ne-eqb, lt-ltb}
+use lib.Arith.{digits-div, digits-mod}
+use lib.Dec.{eqb, ltb}
 use lib.ListN.{length, getD, set, length-set}
 use lib.Seq.{getD-set-same, getD-set-other}
-use Rattle.laws.specs.Tests.{count, sum}
+use Rattle.laws.specs.Tests.{any, count, sum}
 use Rattle.laws.specs.Bits.{flag}
 use Rattle.laws.specs.Lists.{puts}
-use Rattle.laws.proofs.Cases.{by-test, by-equal, last-or-below, cond-yes, cond-no, and-split, and-left-no, and-join, no-test}
+use Rattle.laws.proofs.Cases.{by-test, by-equal, last-or-below, cond-yes, cond-no, and-left-no, or-split}
+use Rattle.laws.proofs.Tests.{any-none}
+use Rattle.laws.proofs.Masks.{not-both}
 use Rattle.laws.proofs.Counts.{count-ext, count-max}
 use Rattle.laws.proofs.Puts.{getD-puts, length-puts}
-use Rattle.reduction_spec.specs.Cover.{isIn, linked, staying, candidates}
-use Rattle.reduction.specs.RunningKeys.{gone, lowered, keeping, leftKeys, keptKeys, Mutual}
-use Rattle.reduction_spec.proofs.OneRound.{in-tab}
+use Rattle.reduction_spec.specs.Cover.{isIn, candidates}
+use Rattle.reduction.specs.RunningKeys.{gone, keeping, fewerBy, partners, loweredKeys, storedFor, keptKeys, Mutual}
+use Rattle.reduction_spec.proofs.OneRound.{stays}
+use Rattle.reduction.proofs.cover.CliqueLeaves.{fewer-gone}
 use Rattle.reduction.proofs.cover.LeastKey.{key, Keyed}
+
+and-or : (p a b : Bool) → (p && not (a || b)) ≡ ((p && not a) && not b)
+and-or true true b = refl
+and-or true false b = refl
+and-or false a b = refl
 
 -- two tests that differ at u alone, where the first fails
 pub count-but : (f g : ℕ → Bool) (u n : ℕ) → u < n → ((d : ℕ) → d < n → (d ≡ u → ⊥) → f d ≡ g d) → f u ≡ false
@@ -41,25 +50,22 @@ pub sum-flags : (f : ℕ → Bool) (n : ℕ) → sum n (λ d. flag (f d)) ≡ co
 sum-flags f zero = refl
 sum-flags f (suc n) = let e = sum-flags f n in by-test (f n) (λ p. rw p (omega arith)) (λ p. rw p (omega arith))
 
--- a key lowered
-lowered-gone : (x : ℕ) → lowered x gone ≡ gone
-unfolding lowered
-lowered-gone x =
-    cond-no (eqb x 1 && (leb 512 gone && ltb gone gone)) (gone - 512) gone
-    (no-test (eqb x 1 && (leb 512 gone && ltb gone gone))
-    (λ t.
-    let both = and-split (eqb x 1) (leb 512 gone && ltb gone gone) t .1 in
-    let l = ltb-true gone gone (and-split (leb 512 gone) (ltb gone gone) both .1) in
-    absurd (omega arith)))
+-- lists as long as before
+pub stored-length : (v n : ℕ) (q l : List ℕ) → length (storedFor v n q l) ≡ length l
+unfolding storedFor
+stored-length v zero q l = refl
+stored-length v (suc n) q l = length-set (storedFor v n q l) (getD q n 0) v ∙ stored-length v n q l
 
-lowered-yes : (x k : ℕ) → eqb x 1 ≡ true → 512 ≤ k → k < gone → lowered x k ≡ k - 512
-unfolding lowered
-lowered-yes x k e h l =
-    cond-yes (eqb x 1 && (leb 512 k && ltb k gone)) (k - 512) k (and-join e (and-join (le-leb 512 k h) (lt-ltb k gone l)))
+pub lowered-length : (w : ℕ) (graph : List ℕ) (n : ℕ) (q keys : List ℕ) → length (loweredKeys w graph n q keys) ≡ length keys
+unfolding loweredKeys
+lowered-length w graph n q keys = length-puts (λ c. fewerBy (partners w graph n q c) (getD keys c 0)) w keys
 
-pub lowered-no : (x k : ℕ) → eqb x 1 ≡ false → lowered x k ≡ k
-unfolding lowered
-lowered-no x k e = cond-no (eqb x 1 && (leb 512 k && ltb k gone)) (k - 512) k (and-left-no (eqb x 1) (leb 512 k && ltb k gone) e)
+-- a key that counts edges, lowered
+fewer-edges : (j e c : ℕ) → c < 512 → e ≤ 512 → fewerBy j (e * 512 + c) ≡ (e - j) * 512 + c
+unfolding fewerBy
+fewer-edges j e c low few =
+    cond-yes (ltb (e * 512 + c) gone) _ (e * 512 + c) (lt-ltb (e * 512 + c) gone (omega arith))
+    ∙ ap₂ (λ (x y : ℕ). (x - j) * 512 + y) (digits-div e low) (digits-mod e low)
 
 module _ (w : ℕ) (graph : List ℕ) where
   -- column d is another column of p than c, and compatible with c; the edges of c among the columns of p
@@ -79,15 +85,9 @@ module _ (w : ℕ) (graph : List ℕ) where
   pub running-ext : (p q : ℕ → Bool) (keys : List ℕ) → ((d : ℕ) → d < w → p d ≡ q d) → Running p keys → Running q keys
   running-ext p q keys h r c l = r c l ∙ ap₂ (λ (b : Bool) (e : ℕ). key b e c) (h c l) (among-ext p q h c)
 
-  pub running-same : (p : ℕ → Bool) (keys keys′ : List ℕ) → ((d : ℕ) → d < w → getD keys′ d 0 ≡ getD keys d 0) → Running p keys → Running p keys′
-  running-same p keys keys′ h r c l = h c l ∙ r c l
-
   -- column u leaves
-  module _ (both : Mutual w graph) (wide : w ≤ 512) (p q : ℕ → Bool) (u : ℕ) (hu : u < w) (in-u : p u ≡ true)
+  module _ (both : Mutual w graph) (p q : ℕ → Bool) (u : ℕ) (hu : u < w) (in-u : p u ≡ true)
       (less : (d : ℕ) → d < w → q d ≡ (p d && not (eqb u d))) where
-    q-out : (c : ℕ) → c < w → p c ≡ false → q c ≡ false
-    q-out c h e = less c h ∙ and-left-no (p c) (not (eqb u c)) e
-
     q-self : (c : ℕ) → c < w → c ≡ u → q c ≡ false
     q-self c h e = less c h ∙ ap₂ (λ (a b : Bool). a && not b) (ap p e ∙ in-u) (eq-eqb u c (sym e))
 
@@ -104,75 +104,118 @@ module _ (w : ℕ) (graph : List ℕ) where
         ∙ ap (λ (b : Bool). among q c + flag b)
         (ap₂ (λ (a b : Bool). a && not b && isIn graph (c * w + u)) in-u (ne-eqb c u n) ∙ both c u h hu)
 
-    pub leave-one : (keys : List ℕ) → w ≤ length keys → Running p keys → Running q (leftKeys w graph u keys)
-    unfolding leftKeys
-    leave-one keys long r c h =
-        let base = set keys u gone in
-        let x = getD graph (u * w + c) 0 in
-        getD-puts (λ d. lowered (getD graph (u * w + d) 0) (getD base d 0)) w base 0 c h (omega (arith, length-set keys u gone))
-        ∙ by-equal c u
+  -- the columns p without the first n of q
+  module _ (p : ℕ → Bool) (q : List ℕ) where
+    abbrev pub rest : ℕ → ℕ → Bool
+    rest n c = p c && not (any n (λ i. eqb (getD q i 0) c))
+
+    -- the first n of q are different columns of p
+    pub record Members (n : ℕ) : Type 0 where
+      pub low : (i : ℕ) → i < n → getD q i 0 < w
+      pub inside : (i : ℕ) → i < n → p (getD q i 0) ≡ true
+      pub apart : (i k : ℕ) → i < k → k < n → getD q i 0 ≡ getD q k 0 → ⊥
+
+    fewer-members : (n : ℕ) → Members (suc n) → Members n
+    fewer-members n m =
+        record {
+          low = λ i l. m .low i (omega arith);
+          inside = λ i l. m .inside i (omega arith);
+          apart = λ i k h l. m .apart i k h (omega arith);
+        }
+
+    -- each remaining column's edges fall by exactly the members compatible with it
+    pub edges-fall : Mutual w graph → (n : ℕ) → Members n → (c : ℕ) → c < w → any n (λ i. eqb (getD q i 0) c) ≡ false
+        → among p c ≡ among (rest n) c + partners w graph n q c
+    unfolding partners
+    edges-fall both zero m c c< out = among-ext p (rest 0) (λ d l. sym (and-true (p d))) c ∙ omega arith
+    edges-fall both (suc n) m c c< out =
+        let u = getD q n 0 in
+        let parts = or-split (any n (λ i. eqb (getD q i 0) c)) (eqb u c) out in
+        let before = edges-fall both n (fewer-members n m) c c< (parts .0) in
+        let other : c ≡ u → ⊥ = λ e. not-both (eq-eqb u c (sym e)) (parts .1) in
+        let fresh : any n (λ i. eqb (getD q i 0) u) ≡ false =
+        any-none (λ i. eqb (getD q i 0) u) n (λ i l. ne-eqb (getD q i 0) u (m .apart i n l (omega arith))) in
+        let in-u : rest n u ≡ true = ap₂ (λ (a b : Bool). a && not b) (m .inside n (omega arith)) fresh in
+        let fall = among-less both (rest n) (rest (suc n)) u (m .low n (omega arith)) in-u
+        (λ d l. and-or (p d) (any n (λ i. eqb (getD q i 0) d)) (eqb u d)) c c< other in
+        let last : count (suc n) (λ i. isIn graph (getD q i 0 * w + c)) ≡ count n (λ i. isIn graph (getD q i 0 * w + c)) + flag (isIn graph (u * w + c)) =
+        by-test (isIn graph (u * w + c)) (λ t. rw t refl) (λ t. rw t (omega arith)) in
+        omega (arith, before, fall, last)
+
+    -- a value stored for each member
+    pub stored-at : (v n : ℕ) → Members n → (l : List ℕ) → w ≤ length l → (c : ℕ) → c < w
+        → getD (storedFor v n q l) c 0 ≡ cond (any n (λ i. eqb (getD q i 0) c)) v (getD l c 0)
+    unfolding storedFor
+    stored-at v zero m l long c c< = refl
+    stored-at v (suc n) m l long c c< =
+        let u = getD q n 0 in
+        let before = stored-at v n (fewer-members n m) l long c c< in
+        let low = m .low n (omega arith) in
+        by-equal c u
         (λ e.
-        let g : getD base c 0 ≡ gone = ap (λ (i : ℕ). getD base i 0) e ∙ getD-set-same keys u gone 0 (omega arith) in
-        ap (lowered x) g ∙ lowered-gone x ∙ sym (cond-no (q c) (among q c * 512 + c) gone (q-self c h e)))
-        (λ n. ap (lowered x) (getD-set-other keys u c gone 0 n ∙ r c h) ∙ rest c h n)
-      where
-        rest : (c : ℕ) → c < w → (c ≡ u → ⊥) → lowered (getD graph (u * w + c) 0) (key (p c) (among p c) c) ≡ key (q c) (among q c) c
-        rest c h n =
-            let x = getD graph (u * w + c) 0 in
-            by-test (p c)
-            (λ m.
-            let most = count-max (near p c) w in
-            let fall = among-less c h n in
-            let a : key (p c) (among p c) c ≡ among p c * 512 + c = cond-yes (p c) (among p c * 512 + c) gone m in
-            let b : key (q c) (among q c) c ≡ among q c * 512 + c = cond-yes (q c) (among q c * 512 + c) gone (q-other c h n ∙ m) in
-            by-test (isIn graph (u * w + c))
-            (λ t.
-            let one : among p c ≡ among q c + 1 = fall ∙ ap (λ (v : Bool). among q c + flag v) t in
-            let same : among p c * 512 + c - 512 ≡ among q c * 512 + c = omega arith in
-            ap (lowered x) a ∙ lowered-yes x (among p c * 512 + c) t (omega arith) (omega arith) ∙ same ∙ sym b)
-            (λ t.
-            let none : among p c ≡ among q c + 0 = fall ∙ ap (λ (v : Bool). among q c + flag v) t in
-            let same : among p c * 512 + c ≡ among q c * 512 + c = omega arith in
-            ap (lowered x) a ∙ lowered-no x (among p c * 512 + c) t ∙ same ∙ sym b))
-            (λ m.
-            ap (lowered x) (cond-no (p c) (among p c * 512 + c) gone m) ∙ lowered-gone x
-            ∙ sym (cond-no (q c) (among q c * 512 + c) gone (q-out c h m)))
+        ap (λ (i : ℕ). getD (set (storedFor v n q l) u v) i 0) e ∙ getD-set-same (storedFor v n q l) u v 0 (omega (arith, stored-length v n q l))
+        ∙ sym (cond-yes (any n (λ i. eqb (getD q i 0) c) || eqb u c) v (getD l c 0) (ap (λ (b : Bool). any n (λ i. eqb (getD q i 0) c) || b) (eq-eqb u c (sym e)) ∙ or-true (any n (λ i. eqb (getD q i 0) c)))))
+        (λ e.
+        getD-set-other (storedFor v n q l) u c v 0 e ∙ before
+        ∙ ap (λ (b : Bool). cond b v (getD l c 0)) (sym (ap (λ (b : Bool). any n (λ i. eqb (getD q i 0) c) || b) (ne-eqb u c (λ z. e (sym z))) ∙ or-false (any n (λ i. eqb (getD q i 0) c)))))
 
-  -- where u has no edge, no key but its own changes
-  pub lowers-none : (p : ℕ → Bool) (u : ℕ) → u < w → (keys : List ℕ) → w ≤ length keys → Running p keys
-      → ((d : ℕ) → d < w → near p u d ≡ false) → (c : ℕ) → c < w → getD (set keys u gone) c 0 ≡ getD (leftKeys w graph u keys) c 0
-  unfolding leftKeys
-  lowers-none p u hu keys long r none c h =
-      let base = set keys u gone in
-      let x = getD graph (u * w + c) 0 in
-      sym (getD-puts (λ d. lowered (getD graph (u * w + d) 0) (getD base d 0)) w base 0 c h (omega (arith, length-set keys u gone))
-      ∙ by-equal c u
+    -- the clique leaves: the next round begins with the edges among the columns left
+    pub leave-clique : Mutual w graph → w ≤ 512 → (n : ℕ) → Members n → (keys : List ℕ) → w ≤ length keys → Running p keys
+        → Running (rest n) (loweredKeys w graph n q (storedFor gone n q keys))
+    unfolding loweredKeys
+    leave-clique both wide n m keys long r c h =
+        let base = storedFor gone n q keys in
+        let mem = any n (λ i. eqb (getD q i 0) c) in
+        let j = partners w graph n q c in
+        getD-puts (λ d. fewerBy (partners w graph n q d) (getD base d 0)) w base 0 c h (omega (arith, stored-length gone n q keys))
+        ∙ ap (fewerBy j) (stored-at gone n m keys long c h)
+        ∙ by-test mem
+        (λ e.
+        ap (fewerBy j) (cond-yes mem gone (getD keys c 0) e) ∙ fewer-gone j
+        ∙ sym (cond-no (rest n c) (among (rest n) c * 512 + c) gone (ap (λ (b : Bool). p c && not b) e ∙ and-false (p c))))
+        (λ e.
+        ap (fewerBy j) (cond-no mem gone (getD keys c 0) e ∙ r c h)
+        ∙ by-test (p c)
+        (λ i.
+        let most = count-max (near p c) w in
+        let fall = edges-fall both n m c h e in
+        let less : among p c - j ≡ among (rest n) c = omega arith in
+        ap (fewerBy j) (cond-yes (p c) (among p c * 512 + c) gone i) ∙ fewer-edges j (among p c) c (omega arith) (omega arith)
+        ∙ ap (λ (x : ℕ). x * 512 + c) less
+        ∙ sym (cond-yes (rest n c) (among (rest n) c * 512 + c) gone (ap₂ (λ (a b : Bool). a && not b) i e)))
+        (λ i.
+        ap (fewerBy j) (cond-no (p c) (among p c * 512 + c) gone i) ∙ fewer-gone j
+        ∙ sym (cond-no (rest n c) (among (rest n) c * 512 + c) gone (and-left-no (p c) (not mem) i))))
+
+  -- a column u without edges leaves: no other key changes
+  pub leave-lone : (both : Mutual w graph) (p q : ℕ → Bool) (u : ℕ) → u < w → p u ≡ true → ((d : ℕ) → d < w → q d ≡ (p d && not (eqb u d)))
+      → (keys : List ℕ) → w ≤ length keys → Running p keys → ((d : ℕ) → d < w → near p u d ≡ false) → Running q (set keys u gone)
+  leave-lone both p q u hu in-u less keys long r none c h =
+      by-equal c u
       (λ e.
-      let g : getD base c 0 ≡ gone = ap (λ (i : ℕ). getD base i 0) e ∙ getD-set-same keys u gone 0 (omega arith) in
-      ap (lowered x) g ∙ lowered-gone x ∙ sym g)
+      ap (λ (i : ℕ). getD (set keys u gone) i 0) e ∙ getD-set-same keys u gone 0 (omega arith)
+      ∙ sym (cond-no (q c) (among q c * 512 + c) gone (q-self both p q u hu in-u less c h e)))
       (λ n.
-      let g : getD base c 0 ≡ key (p c) (among p c) c = getD-set-other keys u c gone 0 n ∙ r c h in
-      by-test (p c)
+      let same = q-other both p q u hu in-u less c h n in
+      getD-set-other keys u c gone 0 n ∙ r c h
+      ∙ by-test (p c)
       (λ m.
-      let e : isIn graph (u * w + c) ≡ false =
-      sym (ap₂ (λ (a b : Bool). a && not b && isIn graph (u * w + c)) m (ne-eqb u c (λ y. n (sym y)))) ∙ none c h in
-      lowered-no x (getD base c 0) e)
-      (λ m.
-      let o : getD base c 0 ≡ gone = g ∙ cond-no (p c) (among p c * 512 + c) gone m in
-      ap (lowered x) o ∙ lowered-gone x ∙ sym o)))
+      let fall = among-less both p q u hu in-u less c h n in
+      let unlinked : isIn graph (u * w + c) ≡ false =
+      sym (ap₂ (λ (a b : Bool). a && not b && isIn graph (u * w + c)) m (ne-eqb u c (λ z. n (sym z)))) ∙ none c h in
+      let kept : among p c ≡ among q c + 0 = fall ∙ ap (λ (b : Bool). among q c + flag b) unlinked in
+      cond-yes (p c) (among p c * 512 + c) gone m ∙ ap (λ (x : ℕ). x * 512 + c) (kept ∙ omega arith)
+      ∙ sym (cond-yes (q c) (among q c * 512 + c) gone (same ∙ m)))
+      (λ m. cond-no (p c) (among p c * 512 + c) gone m ∙ sym (cond-no (q c) (among q c * 512 + c) gone (same ∙ m))))
 
-  -- the candidates when column u joins
-  pub stays : (s : List ℕ) (u d : ℕ) → d < w → isIn (candidates w graph s u) d ≡ near (isIn s) u d
-  unfolding candidates staying linked
-  stays s u d h = in-tab (linked w graph s u) w d h
-
+  -- the candidates' keys when column u joins
   pub keep-one : (es : ℕ → ℕ) (s cand : List ℕ) (u : ℕ) → u < w → w ≤ length cand → Keyed w es (isIn s) cand
       → Keyed w es (isIn (candidates w graph s u)) (keptKeys w graph u cand)
   unfolding keptKeys keeping
   keep-one es s cand u hu long r c h =
       let f : ℕ → ℕ = λ d. keeping (getD graph (u * w + d) 0) (getD cand d 0) in
       let all = puts w f cand in
-      let t = stays s u c h in
+      let t = stays w graph s u c h in
       let new = isIn (candidates w graph s u) c in
       let long′ = length-puts f w cand in
       by-equal c u

@@ -1,6 +1,6 @@
 -- `reduction::cover::first_keys` meets its contract.
 -- Assumes nothing.
-use mathlib.Core.Path.{_≡_, sym, ap}
+use mathlib.Core.Path.{_≡_, sym, _∙_, ap}
 use Prim.Native.Nat.{ℕ, _≤_, _-_, _+_, _*_}
 use native.Mathlib.Omega.{arith}
 use Rattle.laws.specs.Lists.{puts}
@@ -21,6 +21,9 @@ loop-holds c = (omega arith, sym (puts-none (firstKey (c .args .w) (c .args .lin
 
 degree-requires : tie.Need-degree-requires Inv-loop μ-loop
 degree-requires c κs = search needs
+
+long16-requires : tie.Need-long16-requires Inv-loop μ-loop
+long16-requires c κs = search needs
 
 mul-keys : tie.Need-mul-keys Inv-loop μ-loop
 mul-keys c = search needs
@@ -46,9 +49,9 @@ loop-less c = search needs
 loop-again : tie.Need-loop-again Inv-loop μ-loop
 unfolding firstKey
 loop-again c =
-    let l = c .before .before .loop in
-    let a = c .before .before .before .args in
-    let new = ap (λ (x : ℕ). x * 512 + l .c) (c .degree .ensures .0) in
+    let l = c .before .before .before .loop in
+    let a = c .before .before .before .before .args in
+    let new = ap (λ (x : ℕ). x * 512 + l .c) (c .long16 .ensures ∙ c .before .degree .ensures .0) in
     (omega arith, puts-next (firstKey (a .w) (a .link .now)) (l .c) (a .keys .now) (l .keys) _ (l .inv .1) new)
 
 returns : tie.Need-returns Inv-loop μ-loop
@@ -65,6 +68,7 @@ first-keys-spec =
     μ-loop
     loop-holds
     degree-requires
+    long16-requires
     mul-keys
     cast-keys
     add-keys

@@ -1,11 +1,11 @@
 -- `reduction::cover::least_key` meets its contract.
 -- Assumes nothing.
 use mathlib.Core.Path.{_≡_, refl, sym, _∙_, ap}
-use Prim.Native.Nat.{_≤_, _-_}
+use Prim.Native.Nat.{_≤_, _-_, min}
 use native.Mathlib.Numerals.{add-one}
 use native.Mathlib.Omega.{arith}
 use lib.ListN.{getD}
-use Rattle.reduction.specs.RunningKeys.{leastKey, lesser}
+use Rattle.reduction.specs.RunningKeys.{leastKey}
 use borrow.Author.Needs.{needs}
 use Rattle.reduction.proofs.cover.least_key.Statement.{statement}
 use Rattle.reduction.proofs.cover.least_key.Tie as tie
@@ -40,7 +40,7 @@ unfolding leastKey
 loop-again c =
     let l = c .before .before .before .loop in
     let keys = c .before .before .before .before .args .keys .now in
-    (omega arith, c .lesser .ensures ∙ ap (lesser (getD keys (l .i) 0)) (l .inv .1) ∙ ap (leastKey keys) (sym (add-one (l .i))))
+    (omega arith, c .lesser .ensures ∙ ap (min (getD keys (l .i) 0)) (l .inv .1) ∙ ap (leastKey keys) (sym (add-one (l .i))))
 
 returns : tie.Need-returns Inv-loop μ-loop
 returns c =
