@@ -23,7 +23,7 @@ use Rattle.reduction.specs.RunningKeys.{gone, keeping, leastKey, degree,
 use Rattle.reduction_spec.proofs.OneRound.{in-tab, in-all, put-other, stays, grown-enough}
 use Rattle.reduction.proofs.cover.KeySteps.{turn-alone, turn-opened}
 use Rattle.reduction.proofs.cover.LeastKey.{key, Keyed, least-found, fewest-empty}
-use Rattle.reduction.proofs.cover.RunningCounts.{count-but, sum-flags, near, among, Running, running-ext, rest, Members, leave-clique, leave-lone, stored-at, stored-length, lowered-length, keep-one}
+use Rattle.reduction.proofs.cover.RunningCounts.{count-but, sum-flags, near, among, Members, Counted, counted, running, round-begins, leave-lone, stored-at, stored-length, lowered-length, keep-one}
 
 -- the columns left without those of the clique q
 abbrev remain : List ℕ → List ℕ → ℕ → Bool
@@ -37,7 +37,7 @@ long-kept w graph cand u =
 
 -- the state between rounds: the columns left, and the numbers of those that left
 record Stands (w : ℕ) (graph left owner : List ℕ) (r : Stand) : Type 0 where
-  running : Running w graph (isIn left) (r .keys)
+  counts : Counted w graph left (r .keys)
   numbers : (c : ℕ) → c < w → getD (r .owner) c 0 ≡ getD owner c 0
   keys-long : w ≤ length (r .keys)
   owner-long : w ≤ length (r .owner)
@@ -177,7 +177,7 @@ module _ (w : ℕ) (graph : List ℕ) (both : Mutual w graph) (wide : w ≤ 512)
     none-in c h = ap (λ (v : ℕ). eqb v 1) (getD-replicate w c 0 0 h)
 
     keyed-left : Keyed w (λ c. getD edged c 0) (isIn left) (r .keys)
-    keyed-left c h = p .running c h ∙ ap (λ (e : ℕ). key (isIn left c) e c) (sym (few left c h))
+    keyed-left c h = p .counts c h ∙ ap (λ (e : ℕ). key (isIn left c) e c) (sym (getD-tab (edges w graph left) 0 w c h))
 
     begins : Grows left left none start
     unfolding start
@@ -194,21 +194,18 @@ module _ (w : ℕ) (graph : List ℕ) (both : Mutual w graph) (wide : w ≤ 512)
           room = length-replicate {A = ℕ} 512 0;
         }
 
-    -- the clique q leaves, of which x holds the members: each round begins with the edges among the columns left
+    -- the clique q leaves, of which x holds the members
     ends : (g : ℕ) (q s : List ℕ) (x : Growth) → Grows left s q x
         → Stands w graph (leave w graph left q) (owned w graph owner q g)
         (record {
           keys = loweredKeys w graph (x .count) (x .members) (storedFor gone (x .count) (x .members) (r .keys));
           owner = storedFor g (x .count) (x .members) (r .owner);
         })
-    unfolding leave owned
+    unfolding owned
     ends g q s x e =
         let marked = storedFor gone (x .count) (x .members) (r .keys) in
-        let after = loweredKeys w graph (x .count) (x .members) marked in
         record {
-          running = running-ext w graph (rest w graph (isIn left) (x .members) (x .count)) (isIn (leave w graph left q)) after
-              (λ d l. ap (λ (b : Bool). isIn left d && not b) (e .flags d l) ∙ sym (in-tab (remain left q) w d l))
-              (leave-clique w graph (isIn left) (x .members) both wide (x .count) (e .members) (r .keys) (p .keys-long) (p .running));
+          counts = round-begins w graph both wide left q (x .members) (r .keys) (x .count) (e .members) (e .flags) (p .keys-long) (p .counts);
           numbers = λ c h.
               stored-at w graph (isIn left) (x .members) g (x .count) (e .members) (r .owner) (p .owner-long) c h
               ∙ ap₂ (λ (b : Bool) (v : ℕ). cond b g v) (e .flags c h) (p .numbers c h)
@@ -256,8 +253,10 @@ module _ (w : ℕ) (graph : List ℕ) (both : Mutual w graph) (wide : w ≤ 512)
           let q : List ℕ = set none u 1 in
           let after : Stands w graph (leave w graph left q) (owned w graph owner q g) (record { keys = set (r .keys) u gone; owner = set (r .owner) u g }) =
           record {
-            running = leave-lone w graph both (isIn left) (isIn (leave w graph left q)) u h m
-                (λ d d<. in-tab (remain left q) w d d< ∙ ap (λ (b : Bool). isIn left d && not b) (only d d<)) (r .keys) (p .keys-long) (p .running) lone;
+            counts = counted w graph (leave w graph left q) (set (r .keys) u gone)
+                (leave-lone w graph both (isIn left) (isIn (leave w graph left q)) u h m
+                (λ d d<. in-tab (remain left q) w d d< ∙ ap (λ (b : Bool). isIn left d && not b) (only d d<))
+                (r .keys) (p .keys-long) (running w graph left (r .keys) (p .counts)) lone);
             numbers = numbers′ q;
             keys-long = omega (arith, length-set (r .keys) u gone, p .keys-long);
             owner-long = omega (arith, length-set (r .owner) u g, p .owner-long);
@@ -324,8 +323,8 @@ module _ (w : ℕ) (graph : List ℕ) (both : Mutual w graph) (wide : w ≤ 512)
   first-stands =
       let ones : List ℕ = replicate w 1 in
       record {
-        running = λ c h. stored 512 w (firstKey w graph) c wide h ∙ ap (λ (e : ℕ). e * 512 + c) (degree-is c h)
-            ∙ sym (cond-yes (isIn ones c) (among w graph (isIn ones) c * 512 + c) gone (in-all w c h));
+        counts = counted w graph ones (puts w (firstKey w graph) (replicate 512 0)) (λ c h. stored 512 w (firstKey w graph) c wide h ∙ ap (λ (e : ℕ). e * 512 + c) (degree-is c h)
+            ∙ sym (cond-yes (isIn ones c) (among w graph (isIn ones) c * 512 + c) gone (in-all w c h)));
         numbers = λ c h. getD-replicate 512 c 0 0 (omega arith) ∙ sym (getD-replicate w c 0 0 h);
         keys-long = omega (arith, length-puts (firstKey w graph) w (replicate 512 0), length-replicate {A = ℕ} 512 0);
         owner-long = omega (arith, length-replicate {A = ℕ} 512 0);

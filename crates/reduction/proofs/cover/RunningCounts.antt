@@ -14,15 +14,15 @@ use lib.ListN.{length, getD, set, length-set}
 use lib.Seq.{getD-set-same, getD-set-other}
 use Rattle.laws.specs.Tests.{any, count, sum}
 use Rattle.laws.specs.Bits.{flag}
-use Rattle.laws.specs.Lists.{puts}
+use Rattle.laws.specs.Lists.{tab, puts}
 use Rattle.laws.proofs.Cases.{by-test, by-equal, last-or-below, cond-yes, cond-no, and-left-no, or-split}
 use Rattle.laws.proofs.Tests.{any-none}
 use Rattle.laws.proofs.Masks.{not-both}
 use Rattle.laws.proofs.Counts.{count-ext, count-max}
 use Rattle.laws.proofs.Puts.{getD-puts, length-puts}
-use Rattle.reduction_spec.specs.Cover.{isIn, candidates}
+use Rattle.reduction_spec.specs.Cover.{isIn, linked, edges, leave, candidates}
 use Rattle.reduction.specs.RunningKeys.{gone, keeping, fewerBy, partners, loweredKeys, storedFor, keptKeys, Mutual}
-use Rattle.reduction_spec.proofs.OneRound.{stays}
+use Rattle.reduction_spec.proofs.OneRound.{in-tab, stays}
 use Rattle.reduction.proofs.cover.CliqueLeaves.{fewer-gone}
 use Rattle.reduction.proofs.cover.LeastKey.{key, Keyed}
 
@@ -82,7 +82,7 @@ module _ (w : ℕ) (graph : List ℕ) where
   among-ext : (p q : ℕ → Bool) → ((d : ℕ) → d < w → p d ≡ q d) → (c : ℕ) → among p c ≡ among q c
   among-ext p q h c = count-ext (near p c) (near q c) w (λ d l. ap (λ (b : Bool). b && not (eqb c d) && isIn graph (c * w + d)) (h d l))
 
-  pub running-ext : (p q : ℕ → Bool) (keys : List ℕ) → ((d : ℕ) → d < w → p d ≡ q d) → Running p keys → Running q keys
+  running-ext : (p q : ℕ → Bool) (keys : List ℕ) → ((d : ℕ) → d < w → p d ≡ q d) → Running p keys → Running q keys
   running-ext p q keys h r c l = r c l ∙ ap₂ (λ (b : Bool) (e : ℕ). key b e c) (h c l) (among-ext p q h c)
 
   -- column u leaves
@@ -159,7 +159,7 @@ module _ (w : ℕ) (graph : List ℕ) where
         getD-set-other (storedFor v n q l) u c v 0 e ∙ before
         ∙ ap (λ (b : Bool). cond b v (getD l c 0)) (sym (ap (λ (b : Bool). any n (λ i. eqb (getD q i 0) c) || b) (ne-eqb u c (λ z. e (sym z))) ∙ or-false (any n (λ i. eqb (getD q i 0) c)))))
 
-    -- the clique leaves: the next round begins with the edges among the columns left
+    -- the clique leaves: the keys count the edges among the columns that remain
     pub leave-clique : Mutual w graph → w ≤ 512 → (n : ℕ) → Members n → (keys : List ℕ) → w ≤ length keys → Running p keys
         → Running (rest n) (loweredKeys w graph n q (storedFor gone n q keys))
     unfolding loweredKeys
@@ -186,6 +186,31 @@ module _ (w : ℕ) (graph : List ℕ) where
         (λ i.
         ap (fewerBy j) (cond-no (p c) (among p c * 512 + c) gone i) ∙ fewer-gone j
         ∙ sym (cond-no (rest n c) (among (rest n) c * 512 + c) gone (and-left-no (p c) (not mem) i))))
+
+  -- the same over the definition's edges, for the columns left and a clique q, of which the first n of ms are the members: each round begins
+  -- with the edges among the columns left
+  abbrev pub Counted : List ℕ → List ℕ → Type 0
+  Counted left keys = Keyed w (edges w graph left) (isIn left) keys
+
+  pub counted : (left keys : List ℕ) → Running (isIn left) keys → Counted left keys
+  unfolding edges linked
+  counted left keys r = r
+
+  pub running : (left keys : List ℕ) → Counted left keys → Running (isIn left) keys
+  unfolding edges linked
+  running left keys r = r
+
+  pub round-begins : Mutual w graph → w ≤ 512 → (left q ms keys : List ℕ) (n : ℕ) → Members (isIn left) ms n
+      → ((c : ℕ) → c < w → any n (λ i. eqb (getD ms i 0) c) ≡ isIn q c) → w ≤ length keys → Counted left keys
+      → Counted (leave w graph left q) (loweredKeys w graph n ms (storedFor gone n ms keys))
+  unfolding leave
+  round-begins both wide left q ms keys n m flags long r =
+      let out : ℕ → Bool = λ c. isIn left c && not (isIn q c) in
+      let after = loweredKeys w graph n ms (storedFor gone n ms keys) in
+      counted (tab w (λ c. flag (out c))) after
+      (running-ext (rest (isIn left) ms n) (isIn (tab w (λ c. flag (out c)))) after
+      (λ d l. ap (λ (b : Bool). isIn left d && not b) (flags d l) ∙ sym (in-tab out w d l))
+      (leave-clique (isIn left) ms both wide n m keys long (running left keys r)))
 
   -- a column u without edges leaves: no other key changes
   pub leave-lone : (both : Mutual w graph) (p q : ℕ → Bool) (u : ℕ) → u < w → p u ≡ true → ((d : ℕ) → d < w → q d ≡ (p d && not (eqb u d)))
