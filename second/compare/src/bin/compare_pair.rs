@@ -1,0 +1,231 @@
+//! Times two archives against each other in one process, call by call in turn, so that a machine whose speed wanders shows what
+//! changed. `compare_pair BEFORE.so AFTER.so [JOBS]`; a shared object is made of an archive by
+//!
+//!     cc -shared -Wl,-Bsymbolic -Wl,--whole-archive libpanel.a -Wl,--no-whole-archive -o AFTER.so
+
+use proved::{Reduction, Totals, NODE_WORDS, WIDTHS};
+use second::fast::Compiler;
+use second::generate::{job, Family};
+use second::job::{Job, Lent, Node};
+use std::ffi::{c_char, c_int, c_void, CString};
+use std::process::ExitCode;
+use std::time::Instant;
+
+extern "C" {
+    fn dlopen(name: *const c_char, flags: c_int) -> *mut c_void;
+    fn dlsym(object: *mut c_void, name: *const c_char) -> *mut c_void;
+}
+
+const RTLD_NOW: c_int = 2;
+
+type Reduce = unsafe extern "C" fn(
+    usize,
+    usize,
+    usize,
+    usize,
+    *const u8,
+    usize,
+    *const u8,
+    usize,
+    *mut [u16; WIDTHS],
+    *mut [u16; NODE_WORDS],
+) -> Reduction;
+
+type Compile = unsafe extern "C" fn(
+    usize,
+    usize,
+    usize,
+    usize,
+    *const u8,
+    usize,
+    *const u8,
+    usize,
+    *mut u16,
+    usize,
+    *mut u8,
+    usize,
+    *mut u8,
+    usize,
+    *mut [u16; WIDTHS],
+) -> Totals;
+
+struct Archive {
+    reduce: Reduce,
+    compile: Compile,
+}
+
+impl Archive {
+    fn open(path: &str) -> Option<Archive> {
+        let path = CString::new(path).ok()?;
+        // SAFETY: the object is one made of the archive, whose functions have these types; it is never closed.
+        unsafe {
+            let object = dlopen(path.as_ptr(), RTLD_NOW);
+            if object.is_null() {
+                return None;
+            }
+            let reduce = dlsym(object, c"cascade_reduce".as_ptr());
+            let compile = dlsym(object, c"cascade_compile".as_ptr());
+            if reduce.is_null() || compile.is_null() {
+                return None;
+            }
+            Some(Archive {
+                reduce: std::mem::transmute::<*mut c_void, Reduce>(reduce),
+                compile: std::mem::transmute::<*mut c_void, Compile>(compile),
+            })
+        }
+    }
+}
+
+struct Memories {
+    nodes: Box<[u16; NODE_WORDS]>,
+    records: [u8; 80],
+    rows: Vec<u8>,
+    widths: [u16; WIDTHS],
+}
+
+impl Memories {
+    fn reduce(&mut self, archive: &Archive, job: &Job) {
+        let (n, m, k, l) = numbers(job);
+        let (order, sheet) = (&job.order, &job.sheet);
+        // SAFETY: pointers and lengths are of slices of their own, of the lengths that the function takes.
+        std::hint::black_box(unsafe {
+            (archive.reduce)(
+                n,
+                m,
+                k,
+                l,
+                order.as_ptr(),
+                order.len(),
+                sheet.as_ptr(),
+                sheet.len(),
+                &mut self.widths,
+                &mut *self.nodes,
+            )
+        });
+    }
+
+    fn compile(&mut self, archive: &Archive, job: &Job) {
+        let (n, m, k, l) = numbers(job);
+        let (order, sheet) = (&job.order, &job.sheet);
+        // SAFETY: as above.
+        std::hint::black_box(unsafe {
+            (archive.compile)(
+                n,
+                m,
+                k,
+                l,
+                order.as_ptr(),
+                order.len(),
+                sheet.as_ptr(),
+                sheet.len(),
+                self.nodes.as_mut_ptr(),
+                NODE_WORDS,
+                self.records.as_mut_ptr(),
+                80,
+                self.rows.as_mut_ptr(),
+                self.rows.len(),
+                &mut self.widths,
+            )
+        });
+    }
+}
+
+fn numbers(job: &Job) -> (usize, usize, usize, usize) {
+    (
+        job.inputs as usize,
+        job.outputs as usize,
+        job.cell_inputs as usize,
+        job.cell_outputs as usize,
+    )
+}
+
+/// Microseconds of one run.
+fn time(run: impl FnOnce()) -> f64 {
+    let began = Instant::now();
+    run();
+    began.elapsed().as_secs_f64() * 1e6
+}
+
+/// Microseconds of a job, each the least of sixteen: reduction before and after, compile before and after, and `fast`. Each
+/// archive goes first in every other round.
+fn least(
+    job: &Job,
+    archives: &[Archive; 2],
+    lent: &mut Memories,
+    fast: &mut dyn FnMut(),
+) -> [f64; 5] {
+    let mut least = [f64::MAX; 5];
+    for round in 0..16 {
+        for turn in 0..2 {
+            let which = (round + turn) % 2;
+            let reduced = time(|| lent.reduce(&archives[which], job));
+            least[which] = least[which].min(reduced);
+        }
+        for turn in 0..2 {
+            let which = (round + turn) % 2;
+            let compiled = time(|| lent.compile(&archives[which], job));
+            least[2 + which] = least[2 + which].min(compiled);
+        }
+        least[4] = least[4].min(time(&mut *fast));
+    }
+    least
+}
+
+fn family(family: Family, jobs: u64, archives: &[Archive; 2]) {
+    let mut lent = Memories {
+        nodes: Box::new([0; NODE_WORDS]),
+        records: [0; 80],
+        rows: vec![0; 32_768],
+        widths: [0; WIDTHS],
+    };
+    let mut compiler = Compiler::new();
+    let mut rival = Lent {
+        nodes: vec![Node::default(); NODE_WORDS / 3],
+        records: vec![0; 80],
+        rows: vec![0; 32_768],
+    };
+    let mut sums = [0.0; 5];
+    for index in 0..jobs {
+        let job = job(family, 1, index);
+        let mut fast = || {
+            let _ = compiler.compile(&job, &mut rival);
+        };
+        let times = least(&job, archives, &mut lent, &mut fast);
+        for (sum, time) in sums.iter_mut().zip(times) {
+            *sum += time;
+        }
+    }
+    let [r, s, c, d, f] = sums.map(|sum| sum / jobs as f64);
+    println!(
+        "| {} | {r:.1} | {s:.1} | {:+.1} % | {c:.1} | {d:.1} | {:+.1} % | {f:.1} | {:.2} |",
+        family.name(),
+        (s / r - 1.0) * 100.0,
+        (d / c - 1.0) * 100.0,
+        d / f
+    );
+}
+
+fn main() -> ExitCode {
+    let arguments: Vec<String> = std::env::args().skip(1).collect();
+    let jobs = match arguments.get(2) {
+        None => Some(100),
+        Some(text) => text.parse().ok().filter(|&jobs| jobs > 0),
+    };
+    let open = |place| {
+        arguments
+            .get(place)
+            .and_then(|path: &String| Archive::open(path))
+    };
+    let (Some(jobs), Some(before), Some(after)) = (jobs, open(0), open(1)) else {
+        eprintln!("compare_pair BEFORE.so AFTER.so [JOBS]");
+        return ExitCode::from(2);
+    };
+    let archives = [before, after];
+    println!("Microseconds a job, least of sixteen taken in turn; `fast` and the ratio to it for a compile.");
+    println!("| family | reduce before | after | | compile before | after | | fast | ratio |");
+    println!("|---|---|---|---|---|---|---|---|---|");
+    for each in Family::ALL {
+        family(each, jobs, &archives);
+    }
+    ExitCode::SUCCESS
+}
