@@ -2,20 +2,22 @@
 -- the keys lowered by the tally.
 -- Assumes nothing.
 use mathlib.Core.Path.{_≡_, refl, sym, _∙_, ap, ap₂}
+use mathlib.Core.Logic.{_⊎_}
 use mathlib.Core.List.{List}
 use Prim.Native.Nat.{ℕ, zero, suc, _+_, _-_, _*_, _/_, _%_, _<_, _≤_, min}
 use native.Mathlib.Nat.{mod-lt, div-add-mod'}
 use native.Mathlib.Numerals.{add-one}
 use native.Mathlib.Omega.{arith}
-use borrow.Author.Tests.{lt-ltb}
+use borrow.Author.Tests.{lt-ltb, le-ltb}
+use lib.Arith.{digits-div, digits-mod}
 use lib.Dec.{eqb, ltb}
-use lib.ListN.{length, getD, set, replicate, length-set, length-replicate, getD-replicate}
+use lib.ListN.{length, getD, set, replicate, length-set, length-replicate, getD-replicate, List·getD-eq-default}
 use lib.Seq.{getD-set-same, getD-set-other}
 use Rattle.laws.specs.Bits.{flag}
 use Rattle.laws.specs.Lists.{puts}
-use Rattle.laws.proofs.Cases.{by-test, by-less, cond-yes, cond-both}
+use Rattle.laws.proofs.Cases.{by-test, by-less, either, cond-yes, cond-no, cond-both}
 use Rattle.laws.proofs.Counts.{count-next, count-max}
-use Rattle.laws.proofs.Puts.{puts-over, puts-same, puts-ext, stored}
+use Rattle.laws.proofs.Puts.{puts-over, puts-same, puts-ext, length-puts, getD-puts, getD-unput, stored}
 use Rattle.reduction_spec.specs.Cover.{isIn}
 use Rattle.reduction.specs.RunningKeys.{gone, fewerBy, partners, loweredKeys, storedFor, Growth, joining, growing, leastKey}
 
@@ -65,6 +67,37 @@ module _ (w : ℕ) (graph q : List ℕ) where
         er
         ∙ puts-ext (λ c. fewerBy (getD p c 0) (getD keys c 0)) (λ c. fewerBy (partners w graph n q c) (getD keys c 0)) w keys
         (λ c l. ap (λ (j : ℕ). fewerBy j (getD keys c 0)) (ap (λ (s : List ℕ). getD s c 0) ep ∙ stored 512 w (partners w graph n q) c wide l))
+
+-- what a clique does to the numbers of edges, whatever the keys were: that of a column which remains falls by the members compatible with
+-- it, never below 0, and any other key is as it was
+module _ (w : ℕ) (graph : List ℕ) (n : ℕ) (q keys : List ℕ) where
+  abbrev after : ℕ → ℕ
+  after c = getD (loweredKeys w graph n q keys) c 0
+
+  pub number-falls : (c : ℕ) → c < w → c < length keys → getD keys c 0 < gone
+      → (after c / 512 ≡ getD keys c 0 / 512 - partners w graph n q c) × (after c % 512 ≡ getD keys c 0 % 512)
+  unfolding loweredKeys fewerBy
+  number-falls c h long left =
+      let k = getD keys c 0 in
+      let e = k / 512 - partners w graph n q c in
+      let low = mod-lt k {m = 512} (omega arith) in
+      let new : after c ≡ e * 512 + k % 512 =
+      getD-puts (λ d. fewerBy (partners w graph n q d) (getD keys d 0)) w keys 0 c h long ∙ cond-yes (ltb k gone) (e * 512 + k % 512) k (lt-ltb k gone left) in
+      (ap (λ (x : ℕ). x / 512) new ∙ digits-div e low, ap (λ (x : ℕ). x % 512) new ∙ digits-mod e low)
+
+  pub number-stays : (c : ℕ) → (w ≤ c) ⊎ (gone ≤ getD keys c 0) → after c ≡ getD keys c 0
+  unfolding loweredKeys fewerBy
+  number-stays c other =
+      let f : ℕ → ℕ = λ d. fewerBy (partners w graph n q d) (getD keys d 0) in
+      let past : w ≤ c → after c ≡ getD keys c 0 = λ l. getD-unput f w keys 0 c l in
+      either other past
+      (λ l.
+      by-less c w
+      (λ h.
+      by-less c (length keys)
+      (λ long. getD-puts f w keys 0 c h long ∙ cond-no (ltb (getD keys c 0) gone) _ (getD keys c 0) (le-ltb (getD keys c 0) gone l))
+      (λ short. List·getD-eq-default (puts w f keys) 0 (omega (arith, length-puts f w keys)) ∙ sym (List·getD-eq-default keys 0 short)))
+      past)
 
 -- a value stored for one member more
 pub stored-none : (v : ℕ) (q l : List ℕ) → l ≡ storedFor v 0 q l
