@@ -257,14 +257,14 @@ module _ (w : ℕ) (graph : List ℕ) (both : Mutual w graph) (wide : w ≤ 512)
                 (leave-lone w graph both (isIn left) (isIn (leave w graph left q)) u h m
                 (λ d d<. in-tab (remain left q) w d d< ∙ ap (λ (b : Bool). isIn left d && not b) (only d d<))
                 (r .keys) (p .keys-long) (running w graph left (r .keys) (p .counts)) lone);
-            numbers = numbers′ q;
+            numbers = numbers′;
             keys-long = omega (arith, length-set (r .keys) u gone, p .keys-long);
             owner-long = omega (arith, length-set (r .owner) u g, p .owner-long);
           } in
           turned (lone-clique lone) (sym (turn-alone w graph g k u r l (sym column))) after
         where
-          numbers′ : (q : List ℕ) → (c : ℕ) → c < w → getD (set (r .owner) u g) c 0 ≡ getD (tab w (λ d. cond (isIn (set none u 1) d) g (getD owner d 0))) c 0
-          numbers′ q c c< =
+          numbers′ : (c : ℕ) → c < w → getD (set (r .owner) u g) c 0 ≡ getD (tab w (λ d. cond (isIn (set none u 1) d) g (getD owner d 0))) c 0
+          numbers′ c c< =
               by-equal c u
               (λ e.
               ap (λ (i : ℕ). getD (set (r .owner) u g) i 0) e ∙ getD-set-same (r .owner) u g 0 (omega (arith, p .owner-long))
