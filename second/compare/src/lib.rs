@@ -165,7 +165,8 @@ pub use walks::{compatible_columns, descent, same_columns, walk};
 
 use second::job::Job;
 
-fn numbers(job: &Job) -> [usize; 4] {
+/// n, m, K and L.
+pub fn numbers(job: &Job) -> [usize; 4] {
     [
         job.inputs as usize,
         job.outputs as usize,
@@ -175,14 +176,15 @@ fn numbers(job: &Job) -> [usize; 4] {
 }
 
 /// Calls an exported function on a job and what else it is lent.
+#[macro_export]
 macro_rules! call {
-    ($function:ident, $job:expr $(, $lent:expr)*) => {{
-        let [n, m, k, l] = numbers($job);
+    ($function:expr, $job:expr $(, $lent:expr)*) => {{
+        let [n, m, k, l] = $crate::numbers($job);
         let (order, sheet) = (&$job.order, &$job.sheet);
         // SAFETY: pointers and lengths are of slices of their own, of the lengths that the function takes, and it is proved to stay
         // within them; order and sheet are only read.
         unsafe {
-            exported::$function(
+            $function(
                 n,
                 m,
                 k,
@@ -199,18 +201,18 @@ macro_rules! call {
 
 /// The least of refusals 1 to 6; 0 where there is none.
 pub fn sheet_refusal(job: &Job) -> u8 {
-    call!(cascade_sheet_refusal, job)
+    call!(exported::cascade_sheet_refusal, job)
 }
 
 /// The same; where it is 0 the table is written.
 pub fn sheet_table(job: &Job, table: &mut [u8; TABLE_BYTES]) -> u8 {
-    call!(cascade_sheet_table, job, table)
+    call!(exported::cascade_sheet_table, job, table)
 }
 
 /// The refusal, or the number of nodes; where nothing is refused the final widths at heights 0 to t - 1 and three words
 /// a node, height, low and high, are written to the front of the two arrays.
 pub fn reduce(job: &Job, widths: &mut [u16; WIDTHS], words: &mut [u16; NODE_WORDS]) -> Reduction {
-    call!(cascade_reduce, job, widths, words)
+    call!(exported::cascade_reduce, job, widths, words)
 }
 
 /// The whole compiler: where nothing is refused three words a node, the stored records and the rows are written to the front of
@@ -223,7 +225,7 @@ pub fn compile(
     widths: &mut [u16; WIDTHS],
 ) -> Totals {
     call!(
-        cascade_compile,
+        exported::cascade_compile,
         job,
         nodes.as_mut_ptr(),
         nodes.len(),

@@ -3,7 +3,7 @@
 //!
 //!     cc -shared -Wl,-Bsymbolic -Wl,--whole-archive libpanel.a -Wl,--no-whole-archive -o AFTER.so
 
-use proved::{Reduction, Totals, NODE_WORDS, WIDTHS};
+use proved::{call, Reduction, Totals, NODE_WORDS, WIDTHS};
 use second::fast::Compiler;
 use second::generate::{job, Family};
 use second::job::{Job, Lent, Node};
@@ -85,58 +85,27 @@ struct Memories {
 
 impl Memories {
     fn reduce(&mut self, archive: &Archive, job: &Job) {
-        let (n, m, k, l) = numbers(job);
-        let (order, sheet) = (&job.order, &job.sheet);
-        // SAFETY: pointers and lengths are of slices of their own, of the lengths that the function takes.
-        std::hint::black_box(unsafe {
-            (archive.reduce)(
-                n,
-                m,
-                k,
-                l,
-                order.as_ptr(),
-                order.len(),
-                sheet.as_ptr(),
-                sheet.len(),
-                &mut self.widths,
-                &mut *self.nodes,
-            )
-        });
+        std::hint::black_box(call!(
+            archive.reduce,
+            job,
+            &mut self.widths,
+            &mut *self.nodes
+        ));
     }
 
     fn compile(&mut self, archive: &Archive, job: &Job) {
-        let (n, m, k, l) = numbers(job);
-        let (order, sheet) = (&job.order, &job.sheet);
-        // SAFETY: as above.
-        std::hint::black_box(unsafe {
-            (archive.compile)(
-                n,
-                m,
-                k,
-                l,
-                order.as_ptr(),
-                order.len(),
-                sheet.as_ptr(),
-                sheet.len(),
-                self.nodes.as_mut_ptr(),
-                NODE_WORDS,
-                self.records.as_mut_ptr(),
-                80,
-                self.rows.as_mut_ptr(),
-                self.rows.len(),
-                &mut self.widths,
-            )
-        });
+        std::hint::black_box(call!(
+            archive.compile,
+            job,
+            self.nodes.as_mut_ptr(),
+            self.nodes.len(),
+            self.records.as_mut_ptr(),
+            self.records.len(),
+            self.rows.as_mut_ptr(),
+            self.rows.len(),
+            &mut self.widths
+        ));
     }
-}
-
-fn numbers(job: &Job) -> (usize, usize, usize, usize) {
-    (
-        job.inputs as usize,
-        job.outputs as usize,
-        job.cell_inputs as usize,
-        job.cell_outputs as usize,
-    )
 }
 
 /// Microseconds of one run.
