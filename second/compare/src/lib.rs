@@ -175,44 +175,44 @@ pub fn numbers(job: &Job) -> [usize; 4] {
     ]
 }
 
-/// Calls an exported function on a job and what else it is lent.
+/// Calls an exported function on a job and what else it is lent. That is safe where the pointers lent and their lengths are of slices of
+/// their own, of the lengths that the function takes: it is proved to stay within them, and order and sheet are only read.
 #[macro_export]
 macro_rules! call {
     ($function:expr, $job:expr $(, $lent:expr)*) => {{
         let [n, m, k, l] = $crate::numbers($job);
         let (order, sheet) = (&$job.order, &$job.sheet);
-        // SAFETY: pointers and lengths are of slices of their own, of the lengths that the function takes, and it is proved to stay
-        // within them; order and sheet are only read.
-        unsafe {
-            $function(
-                n,
-                m,
-                k,
-                l,
-                order.as_ptr(),
-                order.len(),
-                sheet.as_ptr(),
-                sheet.len(),
-                $($lent),*
-            )
-        }
+        $function(
+            n,
+            m,
+            k,
+            l,
+            order.as_ptr(),
+            order.len(),
+            sheet.as_ptr(),
+            sheet.len(),
+            $($lent),*
+        )
     }};
 }
 
 /// The least of refusals 1 to 6; 0 where there is none.
 pub fn sheet_refusal(job: &Job) -> u8 {
-    call!(exported::cascade_sheet_refusal, job)
+    // SAFETY: nothing else is lent.
+    unsafe { call!(exported::cascade_sheet_refusal, job) }
 }
 
 /// The same; where it is 0 the table is written.
 pub fn sheet_table(job: &Job, table: &mut [u8; TABLE_BYTES]) -> u8 {
-    call!(exported::cascade_sheet_table, job, table)
+    // SAFETY: the table is an array of its own.
+    unsafe { call!(exported::cascade_sheet_table, job, table) }
 }
 
 /// The refusal, or the number of nodes; where nothing is refused the final widths at heights 0 to t - 1 and three words
 /// a node, height, low and high, are written to the front of the two arrays.
 pub fn reduce(job: &Job, widths: &mut [u16; WIDTHS], words: &mut [u16; NODE_WORDS]) -> Reduction {
-    call!(exported::cascade_reduce, job, widths, words)
+    // SAFETY: both are arrays of their own.
+    unsafe { call!(exported::cascade_reduce, job, widths, words) }
 }
 
 /// The whole compiler: where nothing is refused three words a node, the stored records and the rows are written to the front of
@@ -224,17 +224,20 @@ pub fn compile(
     rows: &mut [u8],
     widths: &mut [u16; WIDTHS],
 ) -> Totals {
-    call!(
-        exported::cascade_compile,
-        job,
-        nodes.as_mut_ptr(),
-        nodes.len(),
-        records.as_mut_ptr(),
-        records.len(),
-        rows.as_mut_ptr(),
-        rows.len(),
-        widths
-    )
+    // SAFETY: pointers and lengths are of slices and an array of their own.
+    unsafe {
+        call!(
+            exported::cascade_compile,
+            job,
+            nodes.as_mut_ptr(),
+            nodes.len(),
+            records.as_mut_ptr(),
+            records.len(),
+            rows.as_mut_ptr(),
+            rows.len(),
+            widths
+        )
+    }
 }
 
 /// Jobs with numbers of any size, and with orders and sheets of any length and contents, made of a good one.

@@ -85,26 +85,27 @@ struct Memories {
 
 impl Memories {
     fn reduce(&mut self, archive: &Archive, job: &Job) {
-        std::hint::black_box(call!(
-            archive.reduce,
-            job,
-            &mut self.widths,
-            &mut *self.nodes
-        ));
+        // SAFETY: widths and nodes are arrays of their own.
+        std::hint::black_box(unsafe {
+            call!(archive.reduce, job, &mut self.widths, &mut *self.nodes)
+        });
     }
 
     fn compile(&mut self, archive: &Archive, job: &Job) {
-        std::hint::black_box(call!(
-            archive.compile,
-            job,
-            self.nodes.as_mut_ptr(),
-            self.nodes.len(),
-            self.records.as_mut_ptr(),
-            self.records.len(),
-            self.rows.as_mut_ptr(),
-            self.rows.len(),
-            &mut self.widths
-        ));
+        // SAFETY: pointers and lengths are of slices and an array of their own.
+        std::hint::black_box(unsafe {
+            call!(
+                archive.compile,
+                job,
+                self.nodes.as_mut_ptr(),
+                self.nodes.len(),
+                self.records.as_mut_ptr(),
+                self.records.len(),
+                self.rows.as_mut_ptr(),
+                self.rows.len(),
+                &mut self.widths
+            )
+        });
     }
 }
 
