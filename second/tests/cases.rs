@@ -307,7 +307,7 @@ fn numbers_and_bytes_of_any_kind() {
                 2,
             );
         }
-        let records: [[u8; 8]; 9] = [
+        let records: [[u8; 8]; 11] = [
             [0x10, 0, 0, 0, 1, 0, 0, 0],
             [0, 0x10, 0, 0, 1, 0, 0, 0],
             [1, 0, 3, 0, 1, 0, 0, 0],
@@ -315,8 +315,10 @@ fn numbers_and_bytes_of_any_kind() {
             [0, 0, 0, 0, 4, 0, 0, 0],
             [0, 0, 0, 0, 0, 0x80, 0, 0],
             [0, 0, 0, 0, 3, 2, 0, 0],
-            [0, 0, 0, 0, 0, 0, 1, 0],
+            [0, 0, 0, 0, 0, 0, 2, 0],
+            [0, 0, 0, 0, 0, 0, 0x81, 0],
             [0, 0, 0, 0, 0, 0, 0, 0x80],
+            [0, 0, 0, 0, 0, 0, 1, 1],
         ];
         for record in records {
             // 4 is answered although the records before it are 5, and the order is 6.

@@ -3,13 +3,18 @@
 use super::function::{Function, FREE};
 use crate::job::Job;
 
+/// "Byte 6 of a record becomes 1 for a stop record, 0 for an ordinary one."
+const ORDINARY: u8 = 0;
+const STOP: u8 = 1;
+
 /// A record of the sheet, 8 bytes.
 struct Record {
     mask: u16,
     values: u16,
     zeros: u8,
     ones: u8,
-    rest: u16,
+    kind: u8,
+    last: u8,
 }
 
 impl Record {
@@ -32,7 +37,8 @@ fn records(sheet: &[u8]) -> Vec<Record> {
             values: u16::from_le_bytes([b[2], b[3]]),
             zeros: b[4],
             ones: b[5],
-            rest: u16::from_le_bytes([b[6], b[7]]),
+            kind: b[6],
+            last: b[7],
         })
         .collect()
 }
@@ -84,41 +90,49 @@ fn wrong_length(sheet: &[u8]) -> bool {
     sheet.len() % 8 != 0 || sheet.len() > 2048
 }
 
-/// 4: a bit outside n or m, a value bit outside the mask, one output in bytes 4 and 5, or 6-7 not zero.
+/// 4: a bit outside n or m, a value bit outside the mask, one output in bytes 4 and 5, byte 6 above 1,
+/// or byte 7 not zero.
 fn malformed(record: &Record, n: usize, m: usize) -> bool {
     u32::from(record.mask | record.values) >> n != 0
         || u32::from(record.outputs()) >> m != 0
         || record.values & !record.mask != 0
         || record.zeros & record.ones != 0
-        || record.rest != 0
+        || record.kind > STOP
+        || record.last != 0
 }
 
-/// 5: two records match a common word and force one output both ways.
+/// 5: two records of one kind match a common word and force one output both ways, "also where a stop
+/// record covers both".
 fn contradictory(records: &[Record], n: usize) -> bool {
     (0..1u16 << n).any(|word| {
-        let matching = || records.iter().filter(|r| r.matches(word));
-        let zeros = matching().fold(0, |outputs, r| outputs | r.zeros);
-        let ones = matching().fold(0, |outputs, r| outputs | r.ones);
-        zeros & ones != 0
+        [ORDINARY, STOP].into_iter().any(|kind| {
+            let matching = || records.iter().filter(|r| r.kind == kind && r.matches(word));
+            let zeros = matching().fold(0, |outputs, r| outputs | r.zeros);
+            let ones = matching().fold(0, |outputs, r| outputs | r.ones);
+            zeros & ones != 0
+        })
     })
 }
 
-/// "An output is 0 or 1 for a word if a matching record forces it, else free (d)": its value for each
+/// "An output is 0 or 1 for a word if a matching record forces it, else free (d)"; "where a stop record
+/// and an ordinary one both name an output for a word, the stop record decides". Its value for each
 /// word, input 0 in the lowest bit of a word.
 fn values(records: &[Record], output: usize, n: usize) -> Vec<u8> {
     let value = |word: u16| {
-        let forced = |outputs: fn(&Record) -> u8| {
+        let forced = |kind: u8, outputs: fn(&Record) -> u8| {
             records
                 .iter()
-                .any(|r| r.matches(word) && outputs(r) >> output & 1 == 1)
+                .any(|r| r.kind == kind && r.matches(word) && outputs(r) >> output & 1 == 1)
         };
-        if forced(|r| r.zeros) {
-            0
-        } else if forced(|r| r.ones) {
-            1
-        } else {
-            FREE
+        for kind in [STOP, ORDINARY] {
+            if forced(kind, |r| r.zeros) {
+                return 0;
+            }
+            if forced(kind, |r| r.ones) {
+                return 1;
+            }
         }
+        FREE
     };
     (0..1 << n).map(value).collect()
 }
