@@ -4,6 +4,7 @@ pub mod columns;
 pub mod cover;
 pub mod cut;
 pub mod graph;
+mod records;
 pub mod reduce;
 pub mod sheet;
 pub mod step;

@@ -1,12 +1,17 @@
 //! The sheet phase: refusals 1 to 6, or the table of forced outputs.
 
+use super::records::{conflict, split, Records};
 use super::{zeroed, MAX_HEIGHT};
 use crate::job::Job;
+use std::ops::Range;
 
 /// Words of ten heaps. Heap d, from 2^(d + 1) on, looks only at the lowest d bits of a table word's
 /// number: its node 1 stands for all their values, nodes 2i and 2i + 1 for the halves of node i,
 /// and its leaves for single values. The leaves of the heap for all bits become the table.
 const HEAPS: usize = 2048;
+
+/// For each node the places forced to 0 and those forced to 1.
+type Heaps = [[u64; 2]; HEAPS];
 
 /// Bit 0 of every byte, then of every second, fourth and eighth.
 const STRIDE: [u64; 4] = [
@@ -16,7 +21,8 @@ const STRIDE: [u64; 4] = [
     0x0000_0000_0000_0001,
 ];
 
-/// The job as read, and for each input word which outputs are forced.
+/// The job as read, and for each input word which outputs are forced, stop records laid over
+/// ordinary ones.
 ///
 /// A place is (input word, output). A table word holds 8 input words, lowest byte first; a byte has
 /// bit i for output i. Input words are numbered down the order, topmost input most significant.
@@ -28,7 +34,9 @@ pub struct Table {
     pub cell_inputs: usize,
     pub cell_outputs: usize,
     order: [u8; MAX_HEIGHT],
-    heaps: Box<[[u64; 2]; HEAPS]>,
+    heaps: Box<Heaps>,
+    /// Those of the stop records alone; old contents where the sheet has none.
+    stop_heaps: Box<Heaps>,
     kept: [u64; 10],
 }
 
@@ -47,6 +55,7 @@ impl Table {
             cell_outputs: 0,
             order: [0; MAX_HEIGHT],
             heaps: zeroed(),
+            stop_heaps: zeroed(),
             kept: [0; 10],
         }
     }
@@ -76,16 +85,6 @@ impl Table {
     pub fn kept(&self, word: usize) -> u64 {
         self.kept[(word.trailing_zeros() as usize).min(9)]
     }
-}
-
-/// The records of a sheet by field. `force` has the outputs forced to 0 low and those forced to 1
-/// high; `against` has them exchanged.
-struct Records {
-    count: usize,
-    mask: [u16; 256],
-    value: [u16; 256],
-    force: [u16; 256],
-    against: [u16; 256],
 }
 
 /// Answers the least of refusals 1 to 6 that applies, or fills `table`. After a refusal the table is
@@ -139,58 +138,17 @@ pub fn read(job: &Job, table: &mut Table) -> Result<(), u8> {
         return Err(5);
     }
 
-    fill(table, &records, &spread(&place));
+    let map = spread(&place);
+    let words = table.words();
+    fill(&mut table.heaps, words, &records, 0..records.ordinary, &map);
+    if records.ordinary < records.count {
+        lay_over(table, &records, &map);
+    }
     if depends_below(table, &below) {
         return Err(6);
     }
     keep(table, &below);
     Ok(())
-}
-
-/// The fields of the records, or none if a record has a bit that refusal 4 forbids.
-#[inline(always)]
-fn split(sheet: &[u8], n: usize, m: usize) -> Option<Records> {
-    let mut records = Records {
-        count: sheet.len() / 8,
-        mask: [0; 256],
-        value: [0; 256],
-        force: [0; 256],
-        against: [0; 256],
-    };
-    let (inputs, outputs) = ((1u16 << n) - 1, (1u16 << m) - 1);
-    let mut bad = 0;
-    for (r, bytes) in sheet.chunks_exact(8).take(256).enumerate() {
-        let mask = u16::from_le_bytes([bytes[0], bytes[1]]);
-        let value = u16::from_le_bytes([bytes[2], bytes[3]]);
-        let force = u16::from_le_bytes([bytes[4], bytes[5]]);
-        let rest = u16::from_le_bytes([bytes[6], bytes[7]]);
-        let against = force.swap_bytes();
-        bad |= (mask & !inputs) | (value & !mask) | (force & against) | rest;
-        bad |= (force | against) & 255 & !outputs;
-        records.mask[r] = mask;
-        records.value[r] = value;
-        records.force[r] = force;
-        records.against[r] = against;
-    }
-    (bad == 0).then_some(records)
-}
-
-/// Two records match a common word exactly when their values agree on the inputs both test.
-#[inline(always)]
-fn conflict(records: &Records) -> bool {
-    for r in 1..records.count {
-        let (mask, value, against) = (records.mask[r], records.value[r], records.against[r]);
-        let mut hit = 0;
-        for s in 0..r {
-            let differ = (records.value[s] ^ value) & records.mask[s] & mask;
-            let clash = records.force[s] & against;
-            hit |= u16::from(differ == 0) & u16::from(clash != 0);
-        }
-        if hit != 0 {
-            return true;
-        }
-    }
-    false
 }
 
 /// A mask of inputs as a mask of bits of the word's number: entry x for the low six inputs,
@@ -277,20 +235,19 @@ pub(super) fn low_bytes(inputs: usize) -> u64 {
     }
 }
 
-/// Fills the table at all places. The lowest three bits of an input word's number choose a byte in a table word.
-/// Of the bits above, a record's highest tested one chooses the heap, so that those over it need no
-/// listing; the record enters at the nodes whose words it matches all, so that those under its
-/// lowest tested one need none either.
+/// Fills the heaps at all places from the records of one kind. The lowest three bits of an input
+/// word's number choose a byte in a table word. Of the bits above, a record's highest tested one
+/// chooses the heap, so that those over it need no listing; the record enters at the nodes whose
+/// words it matches all, so that those under its lowest tested one need none either.
 #[inline(always)]
-fn fill(table: &mut Table, records: &Records, map: &[u16; 128]) {
+fn fill(heaps: &mut Heaps, words: usize, records: &Records, kind: Range<usize>, map: &[u16; 128]) {
     const ONES: [u64; 3] = [
         0xff00_ff00_ff00_ff00,
         0xffff_0000_ffff_0000,
         0xffff_ffff_0000_0000,
     ];
-    let words = table.words();
-    table.heaps[..4 * words].fill([0; 2]);
-    for r in 0..records.count {
+    heaps[..4 * words].fill([0; 2]);
+    for r in kind {
         let force = records.force[r];
         if force == 0 {
             continue;
@@ -314,7 +271,7 @@ fn fill(table: &mut Table, records: &Records, map: &[u16; 128]) {
         let free = !(high >> level) & (block - 1);
         let mut choice = 0usize;
         loop {
-            or(&mut table.heaps, first + choice, [zero, one]);
+            or(heaps, first + choice, [zero, one]);
             choice = choice.wrapping_sub(free) & free;
             if choice == 0 {
                 break;
@@ -325,24 +282,38 @@ fn fill(table: &mut Table, records: &Records, map: &[u16; 128]) {
     while leaves <= words {
         let heap = 2 * leaves;
         for node in 1..leaves {
-            let whole = table.heaps[heap + node];
-            or(&mut table.heaps, heap + 2 * node, whole);
-            or(&mut table.heaps, heap + 2 * node + 1, whole);
+            let whole = heaps[heap + node];
+            or(heaps, heap + 2 * node, whole);
+            or(heaps, heap + 2 * node + 1, whole);
         }
         if leaves < words {
             // The next heap looks at one bit more; its leaves start at 6 * leaves.
             for leaf in 0..leaves {
-                let whole = table.heaps[heap + leaves + leaf];
-                or(&mut table.heaps, 6 * leaves + leaf, whole);
-                or(&mut table.heaps, 7 * leaves + leaf, whole);
+                let whole = heaps[heap + leaves + leaf];
+                or(heaps, 6 * leaves + leaf, whole);
+                or(heaps, 7 * leaves + leaf, whole);
             }
         }
         leaves *= 2;
     }
 }
 
+/// Lays the stop records over the table of the ordinary ones: they decide at the places they force.
+/// Neither kind forces a place both ways (refusal 5), so none is forced both ways afterwards.
+#[inline(never)]
+fn lay_over(table: &mut Table, records: &Records, map: &[u16; 128]) {
+    let words = table.words();
+    let stops = &mut table.stop_heaps;
+    fill(stops, words, records, records.ordinary..records.count, map);
+    let leaves = 3 * words..4 * words;
+    for (place, &[zero, one]) in table.heaps[leaves.clone()].iter_mut().zip(&stops[leaves]) {
+        let left = !(zero | one);
+        *place = [place[0] & left | zero, place[1] & left | one];
+    }
+}
+
 #[inline(always)]
-fn or(heaps: &mut [[u64; 2]; HEAPS], node: usize, [zero, one]: [u64; 2]) {
+fn or(heaps: &mut Heaps, node: usize, [zero, one]: [u64; 2]) {
     let place = &mut heaps[node % HEAPS];
     *place = [place[0] | zero, place[1] | one];
 }
