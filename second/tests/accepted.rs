@@ -1,28 +1,19 @@
 //! What holds of every accepted job: emitted outputs are allowed, rails are the fewest, the stored form survives.
 
+mod forced;
+
+use forced::forced;
 use second::generate::{compiled_with_totals, job, Family};
 use second::job::{Job, Totals};
 use second::stored;
 
 const SEED: u64 = 2014;
 
-/// What the sheet forces for a word: outputs forced to 0, and to 1.
-fn forced(job: &Job, word: u16) -> (u8, u8) {
-    let mut outputs = (0, 0);
-    for r in job.sheet.chunks_exact(8) {
-        let mask = u16::from_le_bytes([r[0], r[1]]);
-        if word & mask == u16::from_le_bytes([r[2], r[3]]) {
-            outputs = (outputs.0 | r[4], outputs.1 | r[5]);
-        }
-    }
-    outputs
-}
-
 /// Each output of the job is emitted, none else, and each value is allowed, for every word.
 fn allowed(job: &Job, records: &[u8], rows: &[u8]) {
     for word in 0..1u16 << job.inputs {
         let emitted = stored::emit(records, rows, word).expect("well formed");
-        let (zeros, ones) = forced(job, word);
+        let (zeros, ones) = forced(&job.sheet, word);
         for (output, value) in emitted.into_iter().enumerate() {
             assert_eq!(value.is_some(), (output as u64) < job.outputs);
             let forbidden = if value == Some(true) { zeros } else { ones };

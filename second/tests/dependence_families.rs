@@ -1,6 +1,9 @@
 //! The families whose sheets name inputs on which the output does not depend: what each promises; and over all families,
 //! that 6 is given in fewer cases than by the inputs named.
 
+mod forced;
+
+use forced::forced;
 use second::fast::Compiler;
 use second::generate::{job, Family};
 use second::job::{Answer, Job, Lent, Node};
@@ -38,14 +41,7 @@ fn above_named(job: &Job) -> bool {
 fn values(job: &Job) -> Vec<Vec<u8>> {
     let mut lines = vec![Vec::new(); job.outputs as usize];
     for word in 0..1 << job.inputs {
-        let (mut zeros, mut ones) = (0, 0);
-        for record in job.sheet.chunks_exact(8) {
-            let (mask, values) = tested(record);
-            if word & mask == values {
-                zeros |= record[4];
-                ones |= record[5];
-            }
-        }
+        let (zeros, ones) = forced(&job.sheet, word);
         for (output, line) in lines.iter_mut().enumerate() {
             line.push(match (zeros >> output & 1, ones >> output & 1) {
                 (1, _) => 0,

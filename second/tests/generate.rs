@@ -1,5 +1,8 @@
 //! The generator: same seed same job, undamaged families in order, each fault present, column counts as promised.
 
+mod forced;
+
+use forced::forced;
 use second::book::{well_formed, Book, Call, Said};
 use second::generate::{block, calls, damage, job, lent, Family, Fault};
 use second::job::{Answer, Job, Lent, Node};
@@ -31,23 +34,21 @@ fn faults(job: &Job) -> BTreeSet<u8> {
     for r in &records {
         let input_bits = r.mask >> n != 0;
         let output_bits = u16::from(r.zeros | r.ones) >> m != 0;
-        if input_bits || output_bits || r.values & !r.mask != 0 || r.zeros & r.ones != 0 || r.tail {
+        let both_ways = r.zeros & r.ones != 0;
+        let tail = r.kind > 1 || r.last != 0;
+        if input_bits || output_bits || r.values & !r.mask != 0 || both_ways || tail {
             found.insert(4);
         }
     }
     for a in &records {
         for b in &records {
-            if (a.values ^ b.values) & a.mask & b.mask == 0 && a.zeros & b.ones != 0 {
+            let common = (a.values ^ b.values) & a.mask & b.mask == 0;
+            if a.kind == b.kind && common && a.zeros & b.ones != 0 {
                 found.insert(5);
             }
         }
     }
-    // What is forced for a word: outputs to 0, and to 1.
-    let forced = |word: u16| {
-        let matching = records.iter().filter(|r| word & r.mask == r.values);
-        matching.fold((0, 0), |(zeros, ones), r| (zeros | r.zeros, ones | r.ones))
-    };
-    let values: Vec<(u8, u8)> = (0..1 << n).map(forced).collect();
+    let values: Vec<(u8, u8)> = (0..1 << n).map(|word| forced(&job.sheet, word)).collect();
     let place = |variable: u8| job.order.iter().position(|v| *v == variable);
     for (x, y) in (0..n as u8).flat_map(|x| (0..m as u8).map(move |y| (x, y))) {
         let value = |word: usize| (values[word].0 >> y & 1, values[word].1 >> y & 1);
@@ -66,7 +67,8 @@ struct Row {
     values: u16,
     zeros: u8,
     ones: u8,
-    tail: bool,
+    kind: u8,
+    last: u8,
 }
 
 fn records(job: &Job) -> Vec<Row> {
@@ -75,7 +77,8 @@ fn records(job: &Job) -> Vec<Row> {
         values: u16::from_le_bytes([r[2], r[3]]),
         zeros: r[4],
         ones: r[5],
-        tail: r[6] != 0 || r[7] != 0,
+        kind: r[6],
+        last: r[7],
     };
     job.sheet.chunks_exact(8).map(row).collect()
 }
@@ -161,6 +164,8 @@ fn each_fault_occurs() {
             hit += usize::from(found.contains(&wanted(fault)));
             alone += usize::from(found.first() == Some(&wanted(fault)));
             assert!(fault != Fault::OutputAbove || !found.is_empty(), "{index}");
+            let tail = matches!(found.first(), Some(1..=4));
+            assert!(fault != Fault::TailBytes || tail, "{index}");
         }
         assert!(hit >= 80 && alone >= 50, "{fault:?}: {hit} {alone}");
     }

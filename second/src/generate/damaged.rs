@@ -171,14 +171,32 @@ fn spoil(random: &mut Random, job: &mut Job, fault: Fault) {
         }
         Fault::TailBytes => {
             let at = record_place(random, job);
-            job.sheet[at + 6 + random.below(2)] = random.pick(&[1, 128, 255]);
+            let drawn = random.next();
+            let value = [1, 128, 255][(drawn % 3) as usize];
+            let tail = match (random.below(2), value) {
+                // A 1 alone would mark a stop record.
+                (0, 1) => marked(drawn >> 32),
+                (0, _) => [value, 0],
+                _ => [0, value],
+            };
+            job.sheet[at + 6..at + 8].copy_from_slice(&tail);
         }
         Fault::Clash => clash(random, job),
         Fault::OutputAbove => output_above(random, job),
     }
 }
 
-/// Two records that agree on one random word and force one output both ways, anywhere among the others.
+/// Bytes 6 and 7: a mark above 1, often 2, or a stop record's mark before a byte 7 that is not zero.
+fn marked(drawn: u64) -> [u8; 2] {
+    let any = (drawn >> 8) as u8;
+    match drawn % 4 {
+        0 | 1 => [2, 0],
+        2 => [any.max(2), 0],
+        _ => [1, any.max(1)],
+    }
+}
+
+/// Two ordinary records that agree on one random word and force one output both ways, anywhere among the others.
 fn clash(random: &mut Random, job: &mut Job) {
     let (n, m) = (job.inputs as usize, job.outputs as usize);
     let inputs = (1u16 << n) - 1;

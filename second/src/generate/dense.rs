@@ -70,15 +70,9 @@ fn sheet(random: &mut Random, inputs: &[u8]) -> Vec<Record> {
         }
         let values = random.word() & !selecting | slot.1;
         let record = Record::new(mask, values).forcing(slot.0, random.coin());
-        if !records.iter().any(|r| clash(r, &record)) {
+        if !records.iter().any(|r| r.clashes(&record)) {
             records.push(record);
         }
     }
     records
-}
-
-/// Two records match a common word and force one output both ways.
-fn clash(one: &Record, other: &Record) -> bool {
-    (one.values ^ other.values) & one.mask & other.mask == 0
-        && one.zeros & other.ones | one.ones & other.zeros != 0
 }

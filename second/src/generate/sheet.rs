@@ -8,15 +8,18 @@ pub struct Record {
     pub values: u16,
     pub zeros: u8,
     pub ones: u8,
+    pub stop: bool,
 }
 
 impl Record {
+    /// An ordinary record that names nothing.
     pub fn new(mask: u16, values: u16) -> Record {
         Record {
             mask,
             values: values & mask,
             zeros: 0,
             ones: 0,
+            stop: false,
         }
     }
 
@@ -41,6 +44,13 @@ impl Record {
         self
     }
 
+    /// Two records of one kind match a common word and force one output both ways.
+    pub fn clashes(&self, other: &Record) -> bool {
+        self.stop == other.stop
+            && (self.values ^ other.values) & self.mask & other.mask == 0
+            && self.zeros & other.ones | self.ones & other.zeros != 0
+    }
+
     /// A record of a sheet in order.
     pub fn read(bytes: &[u8]) -> Record {
         Record {
@@ -48,14 +58,15 @@ impl Record {
             values: u16::from_le_bytes([bytes[2], bytes[3]]),
             zeros: bytes[4],
             ones: bytes[5],
+            stop: bytes[6] == 1,
         }
     }
 
     pub fn bytes(self) -> [u8; 8] {
         let (mask, values) = (self.mask.to_le_bytes(), self.values.to_le_bytes());
-        let forced = [self.zeros, self.ones];
+        let stop = u8::from(self.stop);
         [
-            mask[0], mask[1], values[0], values[1], forced[0], forced[1], 0, 0,
+            mask[0], mask[1], values[0], values[1], self.zeros, self.ones, stop, 0,
         ]
     }
 }
@@ -236,11 +247,17 @@ pub fn named(m: usize, records: &[Record]) -> Vec<u16> {
 }
 
 /// For each output the inputs on which it depends, as a mask: two words that differ in the input alone
-/// give it different values among 0, 1 and free. No two records clash.
+/// give it different values among 0, 1 and free, a stop record deciding where it names the output. No
+/// two records of one kind clash.
 pub fn dependent(n: usize, m: usize, records: &[Record]) -> Vec<u16> {
     let forced = |word: u16| {
-        let matching = records.iter().filter(|r| word & r.mask == r.values);
-        matching.fold([0, 0], |all, r| [all[0] | r.zeros, all[1] | r.ones])
+        let (mut ordinary, mut stop) = ([0, 0], [0, 0]);
+        for r in records.iter().filter(|r| word & r.mask == r.values) {
+            let all = if r.stop { &mut stop } else { &mut ordinary };
+            *all = [all[0] | r.zeros, all[1] | r.ones];
+        }
+        let left = !(stop[0] | stop[1]);
+        [stop[0] | ordinary[0] & left, stop[1] | ordinary[1] & left]
     };
     let forced: Vec<[u8; 2]> = (0..1 << n).map(forced).collect();
     let mut masks = vec![0; m];
