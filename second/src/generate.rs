@@ -9,6 +9,8 @@ mod pending;
 mod plain;
 mod random;
 mod sheet;
+mod stop;
+mod stop_faults;
 mod wide;
 
 pub use blocks::{block, compiled, compiled_with_totals, damage, StoredBlock};
@@ -20,7 +22,7 @@ use crate::job::{Job, Lent, Node};
 use plain::Free;
 use sheet::Standing;
 
-/// A kind of job. In all but `SmallDamaged` and `DependentAbove` job and sheet are in order (no refusal 1 to 6).
+/// A kind of job. In all but those of `REFUSED` job and sheet are in order (no refusal 1 to 6).
 /// The numbers drawn go by a family's place here, so a new one comes last.
 #[derive(Clone, Copy, Debug, PartialEq, Eq)]
 pub enum Family {
@@ -60,6 +62,16 @@ pub enum Family {
     LimitNamed,
     /// 512 different columns at some height before its merge, most pairs of them compatible, and a cover of many rounds.
     ColumnsDense,
+    /// Stop records among ordinary ones, 10 to 50 % of all, n 1 to 8, m 1 to 6, outputs anywhere below the inputs on which they depend.
+    StopSome,
+    /// The same sizes, stop records alone.
+    StopOnly,
+    /// The sizes and sheets of `StopSome` with two records of one kind that clash, also where stop records cover both: refused with 5.
+    StopClash,
+    /// The sizes and sheets of `StopSome` with one fault, most often in a stop record: refused with 4 or 6.
+    StopDamaged,
+    /// n 12, m 8, 256 records, about a third of them stop records.
+    LimitStop,
 }
 
 impl Family {
@@ -70,7 +82,15 @@ impl Family {
         Family::SmallOrders,
     ];
 
-    pub const ALL: [Family; 18] = [
+    /// Jobs made to be refused by the sheet layer; a second fault may undo the first in `SmallDamaged`.
+    pub const REFUSED: [Family; 4] = [
+        Family::SmallDamaged,
+        Family::DependentAbove,
+        Family::StopClash,
+        Family::StopDamaged,
+    ];
+
+    pub const ALL: [Family; 23] = [
         Family::SmallFewFree,
         Family::SmallManyFree,
         Family::SmallOrders,
@@ -89,6 +109,11 @@ impl Family {
         Family::DependentAbove,
         Family::LimitNamed,
         Family::ColumnsDense,
+        Family::StopSome,
+        Family::StopOnly,
+        Family::StopClash,
+        Family::StopDamaged,
+        Family::LimitStop,
     ];
 
     pub fn name(self) -> &'static str {
@@ -111,6 +136,11 @@ impl Family {
             Family::DependentAbove => "dependent-above",
             Family::LimitNamed => "limit-named",
             Family::ColumnsDense => "columns-dense",
+            Family::StopSome => "stop-some",
+            Family::StopOnly => "stop-only",
+            Family::StopClash => "stop-clash",
+            Family::StopDamaged => "stop-damaged",
+            Family::LimitStop => "limit-stop",
         }
     }
 
@@ -147,6 +177,11 @@ pub fn job(family: Family, seed: u64, index: u64) -> Job {
         Family::DependentAbove => dependence::dependent_above(random),
         Family::LimitNamed => dependence::limit_named(random),
         Family::ColumnsDense => dense::dense(random),
+        Family::StopSome => stop::stop_some(random),
+        Family::StopOnly => stop::stop_only(random),
+        Family::StopClash => stop_faults::stop_clash(random, index),
+        Family::StopDamaged => stop_faults::stop_damaged(random, index),
+        Family::LimitStop => stop::limit_stop(random),
     }
 }
 

@@ -12,7 +12,7 @@ use std::path::Path;
 use std::process::ExitCode;
 use std::{env, fs, io};
 
-const FAMILIES: [Family; 10] = [
+const FAMILIES: [Family; 14] = [
     Family::SmallOrders,
     Family::SmallFewFree,
     Family::SmallManyFree,
@@ -23,6 +23,10 @@ const FAMILIES: [Family; 10] = [
     Family::FullRowsAnywhere,
     Family::NamedNotDependent,
     Family::DependentAbove,
+    Family::StopSome,
+    Family::StopOnly,
+    Family::StopClash,
+    Family::StopDamaged,
 ];
 
 const EQUATIONS_PER_FILE: usize = 20;

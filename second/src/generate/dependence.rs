@@ -7,10 +7,10 @@ use super::sheet::{cover, dependent, order, Density, Hidden, Record, Standing};
 use crate::job::Job;
 
 /// The most records of a sheet.
-const MOST: usize = 256;
+pub const MOST: usize = 256;
 
 /// The job with each output below the inputs of its mask, the inputs as given.
-fn ordered(random: &mut Random, inputs: &[u8], masks: &[u16], records: &[Record]) -> Job {
+pub fn ordered(random: &mut Random, inputs: &[u8], masks: &[u16], records: &[Record]) -> Job {
     let standing = random.pick(&[Standing::Anywhere, Standing::Anywhere, Standing::High]);
     let order = order(random, inputs, masks, standing);
     let limits = cell_limits(random);
@@ -23,7 +23,7 @@ fn forced(record: Record, output: u8, value: Option<bool>) -> Record {
 }
 
 /// A function of at most three inputs.
-fn few(random: &mut Random, n: usize) -> Hidden {
+pub fn few(random: &mut Random, n: usize) -> Hidden {
     let inputs: Vec<u8> = (0..n as u8).collect();
     let size = random.within(0, n.min(3));
     let support = support(random, &inputs, size);
@@ -31,7 +31,7 @@ fn few(random: &mut Random, n: usize) -> Hidden {
 }
 
 /// One record with a full mask for each word. An output takes all of 0, 1 and free, or two of them.
-fn full_rows(random: &mut Random, n: usize, m: usize) -> Vec<Record> {
+pub fn full_rows(random: &mut Random, n: usize, m: usize) -> Vec<Record> {
     let mask = (1 << n) - 1;
     let mut records: Vec<Record> = (0..=mask).map(|word| Record::new(mask, word)).collect();
     for output in 0..m as u8 {
@@ -63,7 +63,7 @@ pub fn full_rows_anywhere(random: &mut Random) -> Job {
 
 /// In place of one record, for all its outputs or some, two or three that together match the same words: halves by
 /// an input that it does not test, or three that overlap, by two such inputs. Or a double.
-fn replace(random: &mut Random, n: usize, records: &mut Vec<Record>) {
+pub fn replace(random: &mut Random, n: usize, records: &mut Vec<Record>) {
     let at = random.below(records.len());
     let record = records[at];
     let outputs = if random.coin() { 255 } else { random.byte() };
@@ -94,7 +94,7 @@ fn replace(random: &mut Random, n: usize, records: &mut Vec<Record>) {
 
 /// A cover of functions of few inputs, some outputs never 0 or never 1, with some records replaced and now and then one left
 /// out; at most 240 records.
-fn named_widely(random: &mut Random, n: usize, m: usize) -> Vec<Record> {
+pub fn named_widely(random: &mut Random, n: usize, m: usize) -> Vec<Record> {
     let hidden: Vec<Hidden> = (0..m).map(|_| few(random, n)).collect();
     let density = Density {
         keep: random.pick(&[100, 100, 80, 40]),
@@ -209,7 +209,7 @@ pub fn dependent_above(random: &mut Random) -> Job {
 }
 
 /// Moves an output above an input of the mask; often that is the lowest of them, and no other variable is passed.
-fn raise(random: &mut Random, order: &mut Vec<u8>, output: u8, mask: u16) {
+pub fn raise(random: &mut Random, order: &mut Vec<u8>, output: u8, mask: u16) {
     order.retain(|variable| *variable != 128 + output);
     let mut places: Vec<usize> = (0..order.len()).collect();
     places.retain(|place| order[*place] < 128 && mask >> order[*place] & 1 == 1);
@@ -223,6 +223,27 @@ fn raise(random: &mut Random, order: &mut Vec<u8>, output: u8, mask: u16) {
         random.within(0, most)
     };
     order.insert(place, 128 + output);
+}
+
+/// So many records with the values of fewer.
+pub fn filled(
+    random: &mut Random,
+    n: usize,
+    mut records: Vec<Record>,
+    wanted: usize,
+) -> Vec<Record> {
+    if records.is_empty() {
+        records.push(Record::new(0, 0).forcing(0, true));
+    }
+    while records.len() < wanted {
+        if records.len() + 3 <= wanted {
+            replace(random, n, &mut records);
+        } else {
+            let double = random.pick(&records);
+            records.push(double);
+        }
+    }
+    records
 }
 
 /// n 12, m 8, 256 records that name more than they need; each output reads a window of the inputs.
@@ -244,18 +265,8 @@ pub fn limit_named(random: &mut Random) -> Job {
         narrow: 0,
         most: 180,
     };
-    let mut records = cover(random, n, &hidden, &density);
-    if records.is_empty() {
-        records.push(Record::new(0, 0).forcing(0, true));
-    }
-    while records.len() < MOST {
-        if records.len() + 3 <= MOST {
-            replace(random, n, &mut records);
-        } else {
-            let double = random.pick(&records);
-            records.push(double);
-        }
-    }
+    let records = cover(random, n, &hidden, &density);
+    let mut records = filled(random, n, records, MOST);
     random.shuffle(&mut records);
     let mut job = ordered(random, &inputs, &dependent(n, m, &records), &records);
     if random.coin() {
