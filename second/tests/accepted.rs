@@ -78,4 +78,7 @@ fn larger() {
     check(Family::FullRowsAnywhere, 300);
     check(Family::NamedNotDependent, 300);
     check(Family::ColumnsDense, 25);
+    check(Family::LimitStop, 25);
+    check(Family::StopSome, 2_000);
+    check(Family::StopOnly, 500);
 }

@@ -125,6 +125,20 @@ fn dependence() {
 }
 
 #[test]
+fn stop_records() {
+    for (family, jobs) in [(Family::StopSome, 4_000), (Family::StopOnly, 2_000)] {
+        let seen = compare(family, jobs);
+        reached(&seen, &[0, 8, 9, 10, 11]);
+        assert!(!seen.keys().any(|number| (1..=7).contains(number)));
+    }
+    let clash = compare(Family::StopClash, 3_000);
+    assert_eq!(clash.keys().collect::<Vec<_>>(), [&5]);
+    let damaged = compare(Family::StopDamaged, 3_000);
+    assert_eq!(damaged.keys().collect::<Vec<_>>(), [&4, &6]);
+    reached(&compare(Family::LimitStop, 12), &[0, 8]);
+}
+
+#[test]
 fn columns() {
     let most = compare(Family::Columns512, 15);
     assert!(!most.contains_key(&7), "{most:?}");

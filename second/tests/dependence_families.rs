@@ -85,6 +85,7 @@ fn six_in_fewer_cases() {
             Family::LimitFewFree | Family::LimitManyFree | Family::LimitNamed => 300,
             Family::Columns512 | Family::Columns513 | Family::ColumnsAround => 200,
             Family::ColumnsDense => 200,
+            Family::LimitStop => 300,
             _ => 4_000,
         };
         for index in 0..jobs {

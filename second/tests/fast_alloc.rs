@@ -59,8 +59,12 @@ fn compile_allocates_nothing() {
         assert_eq!(ALLOCATED.get(), before);
         assert!(matches!(answer, Answer::Accepted(_)));
     }
-    // Outputs above inputs, accepted and refused.
-    for family in [Family::LimitNamed, Family::DependentAbove] {
+    // Outputs above inputs, accepted and refused, and stop records.
+    for family in [
+        Family::LimitNamed,
+        Family::DependentAbove,
+        Family::LimitStop,
+    ] {
         for index in 0..50 {
             let given = job(family, 1, index);
             let before = ALLOCATED.get();

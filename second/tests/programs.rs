@@ -45,8 +45,9 @@ fn bad_input_is_refused() {
 /// The listing of every small job is the same by both compilers, and after the input is cut anywhere.
 #[test]
 fn listings_agree() {
-    for index in 0..2_000 {
-        let mut bytes = raw(&job(Family::SmallOrders, 5, index));
+    for index in 0..4_000 {
+        let family = [Family::SmallOrders, Family::StopSome][index as usize % 2];
+        let mut bytes = raw(&job(family, 5, index / 2));
         if index % 3 == 0 {
             bytes.truncate(bytes.len() * (index as usize % 7) / 7);
         }
