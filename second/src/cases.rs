@@ -1,4 +1,5 @@
-//! The case table of the scope document, A to J: the sheet T and the jobs. E is as document 02, §1, has it.
+//! The case table of the scope document, A to J: the sheet T and the jobs. E is as document 02, §1, has it, and S is the
+//! example of its §3.
 
 use crate::job::Job;
 
@@ -105,4 +106,26 @@ pub fn g() -> Job {
 pub fn h(length: usize) -> Job {
     let sheet = vec![0; length];
     Job { sheet, ..f() }
+}
+
+/// x1 is the lid open, x2 washing demanded, y1 the wash valve. The wash line opens the valve; the lid-open line, a stop record,
+/// closes it. K 3, L 2, order x1 x2 y1.
+pub fn s() -> Job {
+    let wash = [2, 0, 2, 0, 0, 1, 0, 0];
+    let lid_open = [1, 0, 1, 0, 1, 0, 1, 0];
+    Job {
+        inputs: 2,
+        outputs: 1,
+        cell_inputs: 3,
+        cell_outputs: 2,
+        order: vec![0, 1, 128],
+        sheet: [wash, lid_open].concat(),
+    }
+}
+
+/// S with an ordinary lid-open line.
+pub fn s_same() -> Job {
+    let mut job = s();
+    job.sheet[8 + 6] = 0;
+    job
 }

@@ -1,4 +1,7 @@
-//! Cases A to J of the scope document, with everything it prints, and each refusal of a compiler.
+//! Cases A to J of the scope document, with everything it prints, case S, and each refusal of a compiler.
+
+#[path = "cases/stop.rs"]
+mod stop;
 
 use second::cases::{self, TRUTH};
 use second::job::{Answer, Job, Lent, Node, Totals};
