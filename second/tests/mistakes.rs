@@ -152,3 +152,49 @@ fn widths_taken_before_later_merges() {
     let (wrong, ..) = accepted(&cases::b(), Mistake::WidthsBeforeLaterMerges);
     assert_eq!(widths(&cases::b(), &wrong), [2, 4, 6, 3, 2, 1]);
 }
+
+#[test]
+fn the_later_record_decides() {
+    // The lid-open line comes first.
+    let mut job = cases::s();
+    job.sheet.rotate_left(8);
+    let right = with(&job, Mistake::None);
+    assert_eq!(right, with(&cases::s(), Mistake::None));
+    assert_eq!(right.2, [1, 1, 0, 0]);
+    // The wash line is last, so the valve is opened with the lid open.
+    let (_, _, rows) = accepted(&job, Mistake::LaterDecides);
+    assert_eq!(rows, [0, 1, 0, 1]);
+    // With the lid-open line last the mistake does not show.
+    assert_eq!(with(&cases::s(), Mistake::LaterDecides), right);
+}
+
+#[test]
+fn a_clash_between_kinds() {
+    assert!(matches!(
+        with(&cases::s(), Mistake::None).0,
+        Answer::Accepted(_)
+    ));
+    let (answer, ..) = with(&cases::s(), Mistake::ClashBetweenKinds);
+    assert_eq!(answer, Answer::Refused(5));
+}
+
+#[test]
+fn a_clash_that_a_stop_record_covers() {
+    // Two ordinary lines clash where the lid is open, and the lid-open line names the valve there.
+    let mut job = cases::s();
+    job.sheet.extend([3, 0, 3, 0, 1, 0, 0, 0]);
+    let (answer, ..) = with(&job, Mistake::None);
+    assert_eq!(answer, Answer::Refused(5));
+    let wrong = with(&job, Mistake::CoveredClash);
+    assert_eq!(wrong, with(&cases::s(), Mistake::None));
+    // Without the lid-open line, and where the two are stop records, it gives 5 all the same.
+    let mut bare = job.clone();
+    bare.sheet.drain(8..16);
+    let mut stops = job;
+    stops.sheet[6] = 1;
+    stops.sheet[16 + 6] = 1;
+    for job in [bare, stops] {
+        let (answer, ..) = with(&job, Mistake::CoveredClash);
+        assert_eq!(answer, Answer::Refused(5));
+    }
+}

@@ -6,7 +6,7 @@ use forced::forced;
 use second::fast::{self, Compiler};
 use second::generate::{job, Family};
 use second::job::{Answer, Job, Lent, Node};
-use second::plain;
+use second::plain::{self, compile_with, Mistake};
 use std::collections::BTreeMap;
 
 const SEED: u64 = 9;
@@ -317,4 +317,26 @@ fn limit_stop() {
     println!("{seen:?}");
     assert!(seen.keys().all(|number| matches!(number, 0 | 7 | 8)));
     assert!(seen[&0] > 120, "{seen:?}");
+}
+
+/// How many of these jobs are answered otherwise, or leave other memory, with a mistake made.
+fn shows(family: Family, mistake: Mistake) -> usize {
+    let differs = |index: &u64| {
+        let job = job(family, SEED, *index);
+        let [right, wrong] = [Mistake::None, mistake].map(|mistake| {
+            let mut lent = enough();
+            (compile_with(&job, &mut lent, mistake), lent)
+        });
+        right != wrong
+    };
+    (0..500).filter(differs).count()
+}
+
+#[test]
+fn mistakes_show() {
+    let later = shows(Family::StopSome, Mistake::LaterDecides);
+    let between = shows(Family::StopSome, Mistake::ClashBetweenKinds);
+    let covered = shows(Family::StopClash, Mistake::CoveredClash);
+    println!("later {later}, between {between}, covered {covered}");
+    assert!(later > 100 && between > 200 && covered > 80);
 }

@@ -32,6 +32,12 @@ pub enum Mistake {
     /// Each width taken as its height comes up, before the merges from there down. (Taken after its
     /// own height's merge it is final: two products of the cover hold 0 and 1 at some place.)
     WidthsBeforeLaterMerges,
+    /// Of all records that name an output for a word the last in the sheet decides.
+    LaterDecides,
+    /// 5 where a stop record and an ordinary one force an output both ways, too.
+    ClashBetweenKinds,
+    /// No 5 where a stop record names the output for the words at which two ordinary ones clash.
+    CoveredClash,
 }
 
 /// All that an accepted job makes, before it is written into lent memory.
@@ -85,7 +91,7 @@ pub fn compile_with(job: &Job, lent: &mut Lent, mistake: Mistake) -> Answer {
 
 /// Refusals 1 to 8, or the cascade.
 fn build(job: &Job, mistake: Mistake) -> Result<Cascade, u8> {
-    let mut function = sheet::read(job)?;
+    let mut function = sheet::read_with(job, mistake)?;
     if mistake == Mistake::FreeAsZero {
         for value in function.lines.iter_mut().flatten() {
             *value = if *value == FREE { 0 } else { *value };

@@ -1,6 +1,7 @@
 //! The sheet and the job: refusals 1 to 6, each a test of its own, and the function as a table.
 
 use super::function::{Function, FREE};
+use super::Mistake;
 use crate::job::Job;
 
 /// "Byte 6 of a record becomes 1 for a stop record, 0 for an ordinary one."
@@ -43,8 +44,13 @@ fn records(sheet: &[u8]) -> Vec<Record> {
         .collect()
 }
 
-/// The least of refusals 1 to 6, or the function of the sheet. A test may rely on those before it.
+/// The least of refusals 1 to 6, or the function of the sheet.
 pub fn read(job: &Job) -> Result<Function, u8> {
+    read_with(job, Mistake::None)
+}
+
+/// `read`, with a mistake made on purpose. A test may rely on those before it.
+pub fn read_with(job: &Job, mistake: Mistake) -> Result<Function, u8> {
     if out_of_range(job) {
         return Err(1);
     }
@@ -59,10 +65,12 @@ pub fn read(job: &Job) -> Result<Function, u8> {
     if records.iter().any(|r| malformed(r, n, m)) {
         return Err(4);
     }
-    if contradictory(&records, n) {
+    if contradictory(&records, n, mistake) {
         return Err(5);
     }
-    let values: Vec<Vec<u8>> = (0..m).map(|output| values(&records, output, n)).collect();
+    let values: Vec<Vec<u8>> = (0..m)
+        .map(|output| values(&records, output, n, mistake))
+        .collect();
     if output_above_input_it_depends_on(&values, &job.order) {
         return Err(6);
     }
@@ -101,38 +109,51 @@ fn malformed(record: &Record, n: usize, m: usize) -> bool {
         || record.last != 0
 }
 
+/// The outputs that matching records of these kinds force to 0, and to 1.
+fn forced(records: &[Record], kinds: &[u8], word: u16) -> (u8, u8) {
+    let matching = || {
+        let of_kinds = records.iter().filter(|r| kinds.contains(&r.kind));
+        of_kinds.filter(|r| r.matches(word))
+    };
+    let zeros = matching().fold(0, |outputs, r| outputs | r.zeros);
+    let ones = matching().fold(0, |outputs, r| outputs | r.ones);
+    (zeros, ones)
+}
+
 /// 5: two records of one kind match a common word and force one output both ways, "also where a stop
 /// record covers both".
-fn contradictory(records: &[Record], n: usize) -> bool {
+fn contradictory(records: &[Record], n: usize, mistake: Mistake) -> bool {
     (0..1u16 << n).any(|word| {
-        [ORDINARY, STOP].into_iter().any(|kind| {
-            let matching = || records.iter().filter(|r| r.kind == kind && r.matches(word));
-            let zeros = matching().fold(0, |outputs, r| outputs | r.zeros);
-            let ones = matching().fold(0, |outputs, r| outputs | r.ones);
-            zeros & ones != 0
-        })
+        let both_ways = |kinds: &[u8]| {
+            let (zeros, ones) = forced(records, kinds, word);
+            zeros & ones
+        };
+        let (ordinary, stop) = (both_ways(&[ORDINARY]), both_ways(&[STOP]));
+        let clash = match mistake {
+            Mistake::ClashBetweenKinds => both_ways(&[ORDINARY, STOP]),
+            Mistake::CoveredClash => {
+                let (zeros, ones) = forced(records, &[STOP], word);
+                ordinary & !(zeros | ones) | stop
+            }
+            _ => ordinary | stop,
+        };
+        clash != 0
     })
 }
 
 /// "An output is 0 or 1 for a word if a matching record forces it, else free (d)"; "where a stop record
 /// and an ordinary one both name an output for a word, the stop record decides". Its value for each
 /// word, input 0 in the lowest bit of a word.
-fn values(records: &[Record], output: usize, n: usize) -> Vec<u8> {
+fn values(records: &[Record], output: usize, n: usize, mistake: Mistake) -> Vec<u8> {
     let value = |word: u16| {
-        let forced = |kind: u8, outputs: fn(&Record) -> u8| {
-            records
-                .iter()
-                .any(|r| r.kind == kind && r.matches(word) && outputs(r) >> output & 1 == 1)
+        let names = |r: &&Record| r.matches(word) && r.outputs() >> output & 1 == 1;
+        // Those of one kind agree (refusal 5).
+        let first = |kind: u8| records.iter().filter(names).find(|r| r.kind == kind);
+        let deciding = match mistake {
+            Mistake::LaterDecides => records.iter().rfind(names),
+            _ => first(STOP).or_else(|| first(ORDINARY)),
         };
-        for kind in [STOP, ORDINARY] {
-            if forced(kind, |r| r.zeros) {
-                return 0;
-            }
-            if forced(kind, |r| r.ones) {
-                return 1;
-            }
-        }
-        FREE
+        deciding.map_or(FREE, |r| r.ones >> output & 1)
     };
     (0..1 << n).map(value).collect()
 }
