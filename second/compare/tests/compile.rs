@@ -280,6 +280,35 @@ fn dependence() {
     }
 }
 
+/// Document 02, §3: stop records over ordinary ones, alone, clashing and damaged.
+#[test]
+fn stop_records() {
+    let in_order = |all: &Seen| all.keys().all(|number| matches!(number, 0 | 7..=11));
+    for (family, jobs, literal) in [
+        (Family::StopSome, 14_000, 250),
+        (Family::StopOnly, 6_000, 100),
+        (Family::LimitStop, 300, 8),
+    ] {
+        let all = with_fast(family, jobs);
+        assert!(lent_cases(&all, jobs / 20) && in_order(&all), "{all:?}");
+        assert!(seen(&all, 8) >= jobs / 20, "{all:?}");
+        let all = with_plain(family, literal);
+        assert!(seen(&all, 0) >= literal / 2 && in_order(&all), "{all:?}");
+    }
+    for all in [
+        with_fast(Family::StopClash, 4_000),
+        with_plain(Family::StopClash, 150),
+    ] {
+        assert!(all.keys().eq([&5]), "{all:?}");
+    }
+    for all in [
+        with_fast(Family::StopDamaged, 6_000),
+        with_plain(Family::StopDamaged, 150),
+    ] {
+        assert!(all.keys().eq([&4, &6]), "{all:?}");
+    }
+}
+
 /// Numbers of any size and slices of any length and contents.
 #[test]
 fn odd_numbers_and_lengths() {

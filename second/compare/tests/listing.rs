@@ -49,6 +49,8 @@ fn jobs() {
             Family::SmallDamaged => 500,
             Family::SmallFewFree | Family::SmallManyFree | Family::SmallOrders => 300,
             Family::Medium | Family::FullRows | Family::Loose => 150,
+            Family::StopSome | Family::StopClash | Family::StopDamaged => 150,
+            Family::LimitStop => 10,
             _ => 40,
         };
         compare(

@@ -246,6 +246,25 @@ fn columns_dense() {
     assert!(with_plain(Family::ColumnsDense, 5).only(0));
 }
 
+/// Document 02, §3: stop records over ordinary ones, alone, clashing and damaged.
+#[test]
+fn stop_records() {
+    for (family, jobs, literal) in [
+        (Family::StopSome, 4_000, 400),
+        (Family::StopOnly, 1_500, 150),
+    ] {
+        assert!(with_fast(family, jobs).only(0));
+        assert!(with_plain(family, literal).only(0));
+    }
+    assert!(with_fast(Family::StopClash, 1_000).only(5));
+    let seen = with_fast(Family::StopDamaged, 1_000);
+    assert!(seen.refusals.keys().eq([&4, &6]), "{seen:?}");
+    let seen = with_fast(Family::LimitStop, 300);
+    assert!(seen.count(0) + seen.count(7) == 300, "{seen:?}");
+    assert!(seen.highest >= 250, "{seen:?}");
+    with_plain(Family::LimitStop, 4);
+}
+
 /// Compares a job with both; answers what was made.
 fn both(job: &Job, index: u64) -> Made {
     let made = by_fast(&mut Compiler::new(), job);

@@ -83,6 +83,21 @@ fn dependence() {
     assert!(compare(Family::DependentAbove, 2_000).keys().eq([&6]));
 }
 
+/// Document 02, §3: stop records over ordinary ones, alone, clashing and damaged.
+#[test]
+fn stop_records() {
+    for (family, jobs) in [
+        (Family::StopSome, 4_000),
+        (Family::StopOnly, 2_000),
+        (Family::LimitStop, 40),
+    ] {
+        assert!(compare(family, jobs).keys().eq([&0]));
+    }
+    assert!(compare(Family::StopClash, 3_000).keys().eq([&5]));
+    let seen = compare(Family::StopDamaged, 3_000);
+    assert!(seen.keys().eq([&4, &6]), "{seen:?}");
+}
+
 /// Numbers of any size and slices of any length and contents.
 #[test]
 fn odd_numbers_and_lengths() {
