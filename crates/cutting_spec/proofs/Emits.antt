@@ -2,27 +2,24 @@
 -- are those above that cut, each to its value in the function. Where the function is a sheet's, reduced, the sheet allows each.
 -- Assumes nothing.
 use mathlib.Core.Path.{_≡_, sym, _∙_, ap, ap₂}
-use mathlib.Core.Bool.{Bool, true, false, _&&_, cond, or-true}
+use mathlib.Core.Bool.{true, false, or-true}
 use mathlib.Core.List.{List}
 use Prim.Native.Nat.{ℕ, zero, suc, _+_, _-_, _*_, _/_, _%_, _^_, _<_, _≤_}
-use native.Mathlib.Nat.{mod-lt, mod-eq-of-lt}
+use native.Mathlib.Nat.{mod-lt}
 use native.Mathlib.Omega.{arith}
 use lib.Dec.{eqb}
 use lib.ListN.{length, getD, length-replicate, getD-replicate, List·getD-eq-default}
-use lib.Bits.{bitAnd, and-le-r, and-mod}
 use lib.Pow.{pow-pos, pow-add, split}
 use lib.Arith.{digits-lt}
 use Rattle.laws.specs.Bits.{bit, flag}
 use Rattle.laws.proofs.Cases.{by-less}
 use Rattle.laws.proofs.Bits.{bit-low, same-bits, flag-lt}
-use Rattle.laws.proofs.Tests.{any-ext}
 use Rattle.sheet_spec.specs.Job.{Job, t, ins, outs, varAt, isInput, inputList, wordOf, numberOf}
-use Rattle.sheet_spec.specs.Records.{recordCount, mask, values, matches, forces0, forces1}
-use Rattle.sheet_spec.specs.Values.{forcedTo0, forcedTo1, free, value, allows}
+use Rattle.sheet_spec.specs.Values.{value, allows}
 use Rattle.sheet_spec.specs.Refusals.{notEachOnce, sheetRefusal}
 use Rattle.sheet_spec.specs.Table.{tableAt, table}
 use Rattle.sheet_spec.specs.Accepted.{Accepted}
-use Rattle.sheet_spec.proofs.Promises.{good-at, input-below, number-bit, number-small, word-number, insBelow, job-accepted, value-below, output-number, output-listed, output-one, output-height}
+use Rattle.sheet_spec.proofs.Promises.{input-below, number-bit, number-small, word-number, insBelow, job-accepted, value-below, value-low, output-number, output-listed, output-one, output-height}
 use Rattle.reduction_spec.specs.Columns.{numberAt, layers, layer, widthIn}
 use Rattle.reduction_spec.specs.Merge.{reduced}
 use Rattle.reduction_spec.proofs.Promises.{Ruled, width-top, width-layer, reduced-refines, reduced-ruled}
@@ -166,26 +163,6 @@ module _ (j : Job) (s : List ℕ) (e : sheetRefusal j s ≡ 0) where
   read : Accepted (j .n) (j .m) (j .order) s
   read = job-accepted j s e
 
-  matches-low : (w r : ℕ) → r < recordCount s → matches s r w ≡ matches s r (w % 2 ^ j .n)
-  unfolding matches
-  matches-low w r l =
-      let k = mask s r in
-      let k< = good-at (j .n) (j .m) s (read .records-good) r l .mask-low in
-      let less = and-le-r w k in
-      let small : bitAnd w k < 2 ^ j .n = omega arith in
-      ap (λ (y : ℕ). eqb y (bitAnd (values s r) k))
-      (sym (mod-eq-of-lt small) ∙ and-mod w k (j .n) ∙ ap (bitAnd (w % 2 ^ j .n)) (mod-eq-of-lt k<))
-
-  value-low : (w o : ℕ) → value s w o ≡ value s (w % 2 ^ j .n) o
-  unfolding value forcedTo0 forcedTo1
-  value-low w o =
-      let v = w % 2 ^ j .n in
-      ap₂ (λ (a b : Bool). cond a 0 (cond b 1 free))
-      (any-ext (λ r. matches s r w && forces0 s r o) (λ r. matches s r v && forces0 s r o) (recordCount s)
-      (λ r l. ap (λ (b : Bool). b && forces0 s r o) (matches-low w r l)))
-      (any-ext (λ r. matches s r w && forces1 s r o) (λ r. matches s r v && forces1 s r o) (recordCount s)
-      (λ r l. ap (λ (b : Bool). b && forces1 s r o) (matches-low w r l)))
-
   number-low : (w : ℕ) → numberOf (inputList j) (w % 2 ^ j .n) ≡ numberOf (inputList j) w
   number-low w =
       let c = read in
@@ -204,7 +181,7 @@ module _ (j : Job) (s : List ℕ) (e : sheetRefusal j s ≡ 0) where
   value-number w o =
       let c = read in
       let v = w % 2 ^ j .n in
-      value-low w o
+      value-low (j .n) (j .m) s (c .records-good) w o
       ∙ ap (λ (y : ℕ). value s y o)
       (sym (word-number (j .n) (j .m) (j .order) (c .order-whole) (c .inputs) (c .outputs) v (mod-lt w (pow-pos (j .n))))
       ∙ ap (wordOf (inputList j)) (number-low w))

@@ -1,7 +1,7 @@
 -- Laws of `marks`: the bits of several numbers put over one another, in one number and place by place in a list.
 -- Assumes nothing.
 use mathlib.Core.Path.{_≡_, _∙_, ap, refl, sym, ap₂}
-use mathlib.Core.Bool.{Bool, _||_}
+use mathlib.Core.Bool.{Bool, _||_, or-false, or-assoc}
 use Prim.Native.Nat.{ℕ, zero, suc, _^_, _<_, _+_}
 use Rattle.laws.specs.Tests.{any}
 use Rattle.laws.specs.Bits.{has, marks, flag}
@@ -16,10 +16,15 @@ use lib.ListN.{getD}
 use Rattle.laws.specs.Lists.{puts}
 use Rattle.laws.proofs.Puts.{puts-same, puts-over, getD-puts}
 
-pub marks-has : (g : ℕ → ℕ) (r o : ℕ) → has (marks 0 g r) o ≡ any r (λ q. has (g q) o)
+-- over a number that was there, and over none
+pub marks-over : (a : ℕ) (g : ℕ → ℕ) (r o : ℕ) → has (marks a g r) o ≡ (has a o || any r (λ q. has (g q) o))
 unfolding marks
-marks-has g zero o = has-zero o
-marks-has g (suc r) o = has-or (marks 0 g r) (g r) o ∙ ap (λ (b : Bool). b || has (g r) o) (marks-has g r o)
+marks-over a g zero o = sym (or-false (has a o))
+marks-over a g (suc r) o =
+    has-or (marks a g r) (g r) o ∙ ap (λ (b : Bool). b || has (g r) o) (marks-over a g r o) ∙ or-assoc (has a o) (any r (λ q. has (g q) o)) (has (g r) o)
+
+pub marks-has : (g : ℕ → ℕ) (r o : ℕ) → has (marks 0 g r) o ≡ any r (λ q. has (g q) o)
+marks-has g r o = marks-over 0 g r o ∙ ap (λ (b : Bool). b || any r (λ q. has (g q) o)) (has-zero o)
 
 -- marks one over another are few
 pub marks-lt : (n : ℕ) (g : ℕ → ℕ) (r : ℕ) → ((q : ℕ) → q < r → g q < 2 ^ n) → marks 0 g r < 2 ^ n

@@ -13,7 +13,7 @@ use borrow.Author.Tests.{eqb-true, eq-eqb, lt-ltb, not-true}
 use Rattle.laws.specs.Bits.{bit, has, flag}
 use Rattle.laws.specs.Tests.{any, sum, count, least}
 use Rattle.laws.proofs.Cases.{by-test, by-less, and-split, and-join, same-test, equal-sym}
-use Rattle.laws.proofs.Tests.{any-of, any-at, any-out, any-ext, any-one}
+use Rattle.laws.proofs.Tests.{every-at, any-of, any-at, any-out, any-ext, any-one}
 use Rattle.laws.proofs.Find.{least-before}
 use Rattle.laws.proofs.Powers.{sum-bit, sum-small}
 use Rattle.laws.proofs.Bits.{bit-lt, flag-lt, flag-is, bit-zero, flag-has, has-and, has-or, has-power, same-bits}
@@ -89,6 +89,14 @@ xor-flags (suc (suc a)) b p q = absurd (omega arith)
 
 pub has-xor : (a b i : ℕ) → has (bitXor a b) i ≡ differ (has a i) (has b i)
 has-xor a b i = ap (λ (x : ℕ). eqb x 1) (xor-bit a b i) ∙ xor-flags (bit a i) (bit b i) (bit-lt a i) (bit-lt b i)
+
+-- the bits that a byte does not have
+pub has-complement : (a i : ℕ) → i < 8 → has (bitXor a 255) i ≡ not (has a i)
+has-complement a i h = has-xor a 255 i ∙ ap (differ (has a i)) (every-at (has 255) 8 refl i h) ∙ turned (has a i)
+  where
+    turned : (b : Bool) → differ b true ≡ not b
+    turned true = refl
+    turned false = refl
 
 -- the numbers at which a test holds, as a mask
 module _ (p : ℕ → Bool) (n : ℕ) where

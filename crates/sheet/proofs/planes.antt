@@ -1,2 +1,3 @@
 -- Laws of `src/planes.rt`.
+pub mod MarkedPlanes
 pub mod PlaceBlocks

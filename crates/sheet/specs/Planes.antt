@@ -1,18 +1,19 @@
--- The table as the code makes it: a plane holds for each place x the outputs that the records matching it force, as bits. That the table
--- made of two planes is the sheet's is proved.
+-- The table as the code makes it: a plane holds for each place x the outputs that the records matching it force, as bits, the stop records over the ordinary ones. That the
+-- table made of two planes is the sheet's is proved.
 -- Assumes nothing.
 use mathlib.Core.Path.{_≡_}
 use Prim.Native.Nat.{ℕ, zero, suc, _-_, _*_, _%_, _^_, _<_}
 use mathlib.Core.Bool.{Bool, cond, _&&_}
 use mathlib.Core.List.{List}
 use lib.Seq.{sets}
+use Rattle.laws.specs.Tests.{any}
 use Rattle.laws.specs.Lists.{puts, rect}
-use Rattle.sheet_spec.specs.Records.{recordCount, byte}
+use Rattle.sheet_spec.specs.Records.{recordCount, byte, kind, ordinary, stop}
 use Rattle.sheet_spec.specs.Job.{inputsTo, outputsTo}
 use Rattle.sheet.specs.Pairs.{pairOf}
 use lib.Dec.{eqb, ltb}
 use lib.ListN.{length, getD, replicate}
-use lib.Bits.{bitAnd, bitOr}
+use lib.Bits.{bitAnd, bitOr, bitXor}
 use Rattle.laws.specs.Bits.{bit, marks}
 
 -- the place x has the values v on the mask k
@@ -49,7 +50,7 @@ unfoldable pub lineValue : ℕ → ℕ → ℕ → ℕ
 lineValue z y o = (1 - bit z o) * (2 - bit y o)
 
 -- The steps of the code, from arrays of zeros on: the inputs and the outputs of the order, lowest first; bytes lo and hi of each record
--- as numbers read down the order; what the outputs of byte at force, place by place, from the plane and the row; the table
+-- as numbers read down the order; the planes, from the ordinary records and then the stop records; the table
 unfoldable pub inputArray : List ℕ → List ℕ
 inputArray order = sets (replicate 20 0) 0 (inputsTo (length order) order (length order))
 
@@ -59,8 +60,12 @@ outputArray order = sets (replicate 20 0) 0 (outputsTo (length order) order (len
 unfoldable pub fieldArray : List ℕ → ℕ → ℕ → List ℕ
 fieldArray s lo hi = puts (recordCount s) (pairOf s lo hi) (replicate 256 0)
 
-unfoldable pub byteArray : List ℕ → ℕ → List ℕ
-byteArray s at = puts (recordCount s) (λ r. byte s r at) (replicate 256 0)
+-- byte at of the records of kind k, 0 of the others
+unfoldable pub kindByte : List ℕ → ℕ → ℕ → ℕ → ℕ
+kindByte s k at r = cond (eqb (kind s r) k) (byte s r at) 0
+
+unfoldable pub kindArray : List ℕ → ℕ → ℕ → List ℕ
+kindArray s k at = puts (recordCount s) (kindByte s k at) (replicate 256 0)
 
 unfoldable pub numberArray : List ℕ → ℕ → List ℕ → List ℕ
 numberArray is n ws = puts 256 (λ r. numberTo (getD (replicate 256 0) r 0) is n (getD ws r 0)) (replicate 256 0)
@@ -68,24 +73,47 @@ numberArray is n ws = puts 256 (λ r. numberTo (getD (replicate 256 0) r 0) is n
 unfoldable pub numberedField : ℕ → List ℕ → List ℕ → ℕ → ℕ → List ℕ
 numberedField n order s lo hi = numberArray (inputArray order) n (fieldArray s lo hi)
 
-unfoldable pub highPlane : List ℕ → List ℕ → List ℕ → ℕ → List ℕ
-highPlane ks vs s at = puts 4096 (λ x. marks (getD (replicate 4096 0) x 0) (highAdded ks vs (byteArray s at) x) (recordCount s)) (replicate 4096 0)
+-- the plane old after c records are marked in it: those that test upper bits, then the row of the others
+unfoldable pub highPlane : List ℕ → List ℕ → List ℕ → ℕ → List ℕ → List ℕ
+highPlane ks vs fs c old = puts 4096 (λ x. marks (getD old x 0) (highAdded ks vs fs x) c) old
 
 unfoldable pub lowRow : List ℕ → List ℕ → List ℕ → ℕ → List ℕ
-lowRow ks vs s at = puts 256 (λ i. marks (getD (replicate 256 0) i 0) (lowAdded ks vs (byteArray s at) i) (recordCount s)) (replicate 256 0)
+lowRow ks vs fs c = puts 256 (λ i. marks (getD (replicate 256 0) i 0) (lowAdded ks vs fs i) c) (replicate 256 0)
 
-unfoldable pub planeOf : List ℕ → List ℕ → List ℕ → ℕ → List ℕ
-planeOf ks vs s at = puts 4096 (λ x. bitOr (getD (highPlane ks vs s at) x 0) (getD (lowRow ks vs s at) (x % 256) 0)) (highPlane ks vs s at)
+unfoldable pub marked : List ℕ → List ℕ → List ℕ → ℕ → List ℕ → List ℕ
+marked ks vs fs c old =
+    puts 4096 (λ x. bitOr (getD (highPlane ks vs fs c old) x 0) (getD (lowRow ks vs fs c) (x % 256) 0)) (highPlane ks vs fs c old)
+
+-- at each place the outputs that the plane does not hold
+unfoldable pub complemented : List ℕ → List ℕ
+complemented p = puts 4096 (λ x. bitXor (getD p x 0) 255) p
+
+-- what the ordinary records force by byte at; the plane p after the stop records are laid over it: the outputs of the opposite byte, forced the other
+-- way, are taken out and those of byte at put in
+unfoldable pub ordinaryPlane : List ℕ → List ℕ → List ℕ → ℕ → List ℕ
+ordinaryPlane ks vs s at = marked ks vs (kindArray s ordinary at) (recordCount s) (replicate 4096 0)
+
+unfoldable pub stopsOver : List ℕ → List ℕ → List ℕ → ℕ → ℕ → List ℕ → List ℕ
+stopsOver ks vs s at opposite p =
+    marked ks vs (kindArray s stop at) (recordCount s) (complemented (marked ks vs (kindArray s stop opposite) (recordCount s) (complemented p)))
+
+-- some record is a stop record
+unfoldable pub anyStop : List ℕ → Bool
+anyStop s = any (recordCount s) (λ r. eqb (kind s r) stop)
+
+-- the outputs forced by byte at, the stop records over the ordinary ones, at each place
+unfoldable pub planeOf : List ℕ → List ℕ → List ℕ → ℕ → ℕ → List ℕ
+planeOf ks vs s at opposite = cond (anyStop s) (stopsOver ks vs s at opposite (ordinaryPlane ks vs s at)) (ordinaryPlane ks vs s at)
 
 unfoldable pub lineAt : List ℕ → List ℕ → List ℕ → ℕ → ℕ → ℕ
 lineAt zs ys os k x = lineValue (getD zs x 0) (getD ys x 0) (getD os k 0 % 8)
 
--- the outputs forced to 0, and those forced to 1, at each place
+-- the outputs that are 0, and those that are 1, at each place
 unfoldable pub zerosPlane : ℕ → List ℕ → List ℕ → List ℕ
-zerosPlane n order s = planeOf (numberedField n order s 0 1) (numberedField n order s 2 3) s 4
+zerosPlane n order s = planeOf (numberedField n order s 0 1) (numberedField n order s 2 3) s 4 5
 
 unfoldable pub onesPlane : ℕ → List ℕ → List ℕ → List ℕ
-onesPlane n order s = planeOf (numberedField n order s 0 1) (numberedField n order s 2 3) s 5
+onesPlane n order s = planeOf (numberedField n order s 0 1) (numberedField n order s 2 3) s 5 4
 
 unfoldable pub madeTable : ℕ → ℕ → List ℕ → List ℕ → List ℕ
 madeTable n m order s = rect m (2 ^ n) (lineAt (zerosPlane n order s) (onesPlane n order s) (outputArray order))

@@ -5,16 +5,18 @@ ghost use lib.ListN.{length, getD, replicate};
 ghost use lib.Seq.{sets};
 ghost use Rattle.laws.specs.Lists.{putsAt, rect};
 ghost use Rattle.sheet_spec.specs.Job.{inputsTo, outputsTo};
-ghost use Rattle.sheet.specs.Planes.{lineValue, lineAt, fieldArray, numberArray, planeOf, outputArray};
-use crate::planes::mark_high;
-use crate::planes::mark_low;
+ghost use Rattle.sheet.specs.Planes.{lineValue, lineAt, fieldArray, numberArray, ordinaryPlane, stopsOver, planeOf, outputArray};
+use crate::planes::complement;
+use crate::planes::mark;
 use crate::planes::number_words;
-use crate::planes::spread;
 use crate::powers::power;
+use crate::records::any_stop;
 use crate::records::load;
 use crate::records::load_byte;
 use numbers::wide;
 use sheet_spec::MOST_VARIABLES;
+use sheet_spec::ORDINARY;
+use sheet_spec::STOP;
 use sheet_spec::Table;
 
 // The inputs of the order, lowest first.
@@ -129,8 +131,8 @@ fn number_field(
     number_words(inputs, n, &words, numbers);
 }
 
-// What the outputs of byte at of each record force, place by place.
-fn plane_of(
+// What the ordinary records force by byte at, place by place.
+fn ordinary_plane(
     masks: &[u16; 256],
     values: &[u16; 256],
     sheet: &[u8],
@@ -138,18 +140,56 @@ fn plane_of(
     plane: &mut [u8; 4096],
 )
     requires { do ⌜ ((← ⟦sheet.len()⟧) ≤ 2048) × (at < 8) × (now plane ≡ replicate 4096 0) ⌝ }
-    ensures { λ _. ⌜ now (plane .exit) ≡ planeOf (now (masks .entry)) (now (values .entry)) (now (sheet .entry)) at ⌝ }
+    ensures { λ _. ⌜ now (plane .exit) ≡ ordinaryPlane (now (masks .entry)) (now (values .entry)) (now (sheet .entry)) at ⌝ }
 {
     let mut forces = [0u8; 256];
-    load_byte(sheet, at, &mut forces);
-    let count = sheet.len() / 8;
-    mark_high(masks, values, &forces, count, plane);
-    let mut row = [0u8; 256];
-    mark_low(masks, values, &forces, count, &mut row);
-    spread(&row, plane);
+    load_byte(sheet, ORDINARY, at, &mut forces);
+    mark(masks, values, &forces, sheet.len() / 8, plane);
 }
 
-// The outputs forced to 0, and those forced to 1, at each place.
+// The stop records over the plane: what they force by the opposite byte is marked in the complement, so taken out of the plane, and what they force by byte at is put in.
+fn lay_stops(
+    masks: &[u16; 256],
+    values: &[u16; 256],
+    sheet: &[u8],
+    at: usize,
+    opposite: usize,
+    plane: &mut [u8; 4096],
+)
+    requires { do ⌜ ((← ⟦sheet.len()⟧) ≤ 2048) × (at < 8) × (opposite < 8) ⌝ }
+    ensures { λ _.
+        ⌜ now (plane .exit) ≡ stopsOver (now (masks .entry)) (now (values .entry)) (now (sheet .entry)) at opposite (now (plane .entry)) ⌝ }
+{
+    let count = sheet.len() / 8;
+    let mut others = [0u8; 256];
+    load_byte(sheet, STOP, opposite, &mut others);
+    complement(plane);
+    mark(masks, values, &others, count, plane);
+    complement(plane);
+    let mut forces = [0u8; 256];
+    load_byte(sheet, STOP, at, &mut forces);
+    mark(masks, values, &forces, count, plane);
+}
+
+// One plane: the ordinary records, and where there are stop records these over them.
+fn plane_of(
+    masks: &[u16; 256],
+    values: &[u16; 256],
+    sheet: &[u8],
+    at: usize,
+    opposite: usize,
+    plane: &mut [u8; 4096],
+)
+    requires { do ⌜ ((← ⟦sheet.len()⟧) ≤ 2048) × (at < 8) × (opposite < 8) × (now plane ≡ replicate 4096 0) ⌝ }
+    ensures { λ _. ⌜ now (plane .exit) ≡ planeOf (now (masks .entry)) (now (values .entry)) (now (sheet .entry)) at opposite ⌝ }
+{
+    ordinary_plane(masks, values, sheet, at, plane);
+    if any_stop(sheet) {
+        lay_stops(masks, values, sheet, at, opposite, plane);
+    }
+}
+
+// The outputs that are 0, and those that are 1, at each place.
 pub fn fill_planes(
     n: usize,
     inputs: &[u8; MOST_VARIABLES],
@@ -161,18 +201,18 @@ pub fn fill_planes(
     ensures { λ _.
         ⌜ now (zeros .exit)
         ≡ planeOf (numberArray (now (inputs .entry)) n (fieldArray (now (sheet .entry)) 0 1))
-        (numberArray (now (inputs .entry)) n (fieldArray (now (sheet .entry)) 2 3)) (now (sheet .entry)) 4 ⌝ }
+        (numberArray (now (inputs .entry)) n (fieldArray (now (sheet .entry)) 2 3)) (now (sheet .entry)) 4 5 ⌝ }
     ensures { λ _.
         ⌜ now (ones .exit)
         ≡ planeOf (numberArray (now (inputs .entry)) n (fieldArray (now (sheet .entry)) 0 1))
-        (numberArray (now (inputs .entry)) n (fieldArray (now (sheet .entry)) 2 3)) (now (sheet .entry)) 5 ⌝ }
+        (numberArray (now (inputs .entry)) n (fieldArray (now (sheet .entry)) 2 3)) (now (sheet .entry)) 5 4 ⌝ }
 {
     let mut masks = [0u16; 256];
     number_field(n, inputs, sheet, 0, 1, &mut masks);
     let mut values = [0u16; 256];
     number_field(n, inputs, sheet, 2, 3, &mut values);
-    plane_of(&masks, &values, sheet, 4, zeros);
-    plane_of(&masks, &values, sheet, 5, ones);
+    plane_of(&masks, &values, sheet, 4, 5, zeros);
+    plane_of(&masks, &values, sheet, 5, 4, ones);
 }
 
 // The whole table, from the planes.

@@ -1,7 +1,11 @@
-// Refusal 5, by pairs of records.
+// Refusal 5, by pairs of records of one kind.
 ghost use mathlib.Core.Path.{_≡_};
-ghost use Prim.Native.Nat.{_≤_, _<_, _/_};
+ghost use Prim.Native.Nat.{_≤_, _<_, _*_, _/_, _%_};
+ghost use lib.Bits.{bitOr};
+ghost use lib.ListN.{getD};
 ghost use Rattle.laws.specs.Tests.{any};
+ghost use Rattle.laws.specs.Lists.{puts};
+ghost use Rattle.sheet_spec.specs.Records.{recordCount, kind};
 ghost use Rattle.sheet.specs.Pairs.{hitIn, anyHit};
 use crate::records::load;
 
@@ -49,6 +53,23 @@ fn hit_among(
     hit
 }
 
+// The kind becomes one more input that every record tests: bit 15 of its mask, and of its values. So the loop over pairs needs no test of kinds.
+fn add_kinds(sheet: &[u8], masks: &mut [u16; 256], values: &mut [u16; 256])
+    requires { do ⌜ (← ⟦sheet.len()⟧) ≤ 2048 ⌝ }
+    ensures { λ _. ⌜ now (masks .exit) ≡ puts (recordCount (now (sheet .entry))) (λ r. bitOr (getD (now (masks .entry)) r 0) 32768) (now (masks .entry)) ⌝ }
+    ensures { λ _.
+        ⌜ now (values .exit)
+        ≡ puts (recordCount (now (sheet .entry))) (λ r. bitOr (getD (now (values .entry)) r 0) (kind (now (sheet .entry)) r % 2 * 32768)) (now (values .entry)) ⌝ }
+{
+    let count = sheet.len() / 8;
+    let mut r = 0;
+    while r < count {
+        masks[r] = masks[r] | 32768;
+        values[r] = values[r] | (sheet[r * 8 + 6] % 2) as u16 * 32768;
+        r += 1;
+    }
+}
+
 pub fn any_hit(sheet: &[u8]) -> bool
     requires { do ⌜ (← ⟦sheet.len()⟧) ≤ 2048 ⌝ }
     ensures { λ b. ⌜ b ≡ anyHit (now (sheet .entry)) ⌝ }
@@ -57,6 +78,7 @@ pub fn any_hit(sheet: &[u8]) -> bool
     load(sheet, 0, 1, &mut masks);
     let mut values = [0u16; 256];
     load(sheet, 2, 3, &mut values);
+    add_kinds(sheet, &mut masks, &mut values);
     let mut forces = [0u16; 256];
     load(sheet, 4, 5, &mut forces);
     let mut against = [0u16; 256];

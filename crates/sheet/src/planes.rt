@@ -6,7 +6,7 @@ ghost use lib.Bits.{bitOr};
 ghost use lib.ListN.{getD};
 ghost use Rattle.laws.specs.Lists.{puts, putsAt};
 ghost use Rattle.laws.specs.Bits.{bit};
-ghost use Rattle.sheet.specs.Planes.{added, highForce, lowForce, highAdded, lowAdded, numberTo, CountsUp};
+ghost use Rattle.sheet.specs.Planes.{added, highForce, lowForce, highAdded, lowAdded, marked, complemented, numberTo, CountsUp};
 ghost use Rattle.laws.specs.Bits.{marks};
 use numbers::wide;
 use numbers::wide16;
@@ -92,7 +92,7 @@ fn low_force(k: u16, v: u16, f: u8) -> u8
 }
 
 // What the first count records that test upper bits force.
-pub fn mark_high(
+fn mark_high(
     masks: &[u16; 256],
     values: &[u16; 256],
     forces: &[u8; 256],
@@ -137,7 +137,7 @@ fn mark_row(low: &[u8; 256], k: u8, v: u8, f: u8, row: &mut [u8; 256])
 }
 
 // What the first count records that test no upper bits force.
-pub fn mark_low(
+fn mark_low(
     masks: &[u16; 256],
     values: &[u16; 256],
     forces: &[u8; 256],
@@ -182,7 +182,7 @@ fn spread_block(row: &[u8; 256], base: usize, plane: &mut [u8; 4096])
 }
 
 // The row is added to every block of 256 places.
-pub fn spread(row: &[u8; 256], plane: &mut [u8; 4096])
+fn spread(row: &[u8; 256], plane: &mut [u8; 4096])
     ensures { λ _.
         ⌜ now (plane .exit) ≡ puts 4096 (λ x. bitOr (getD (now (plane .entry)) x 0) (getD (now (row .entry)) (x % 256) 0)) (now (plane .entry)) ⌝ }
 {
@@ -190,6 +190,35 @@ pub fn spread(row: &[u8; 256], plane: &mut [u8; 4096])
     while b < 16 {
         spread_block(row, b * 256, plane);
         b += 1;
+    }
+}
+
+// What the first count records force is added to the plane.
+pub fn mark(
+    masks: &[u16; 256],
+    values: &[u16; 256],
+    forces: &[u8; 256],
+    count: usize,
+    plane: &mut [u8; 4096],
+)
+    requires { ⌜ count ≤ 256 ⌝ }
+    ensures { λ _.
+        ⌜ now (plane .exit) ≡ marked (now (masks .entry)) (now (values .entry)) (now (forces .entry)) count (now (plane .entry)) ⌝ }
+{
+    mark_high(masks, values, forces, count, plane);
+    let mut row = [0u8; 256];
+    mark_low(masks, values, forces, count, &mut row);
+    spread(&row, plane);
+}
+
+// At each place the outputs that the plane does not hold.
+pub fn complement(plane: &mut [u8; 4096])
+    ensures { λ _. ⌜ now (plane .exit) ≡ complemented (now (plane .entry)) ⌝ }
+{
+    let mut x = 0;
+    while x < 4096 {
+        plane[x] = plane[x] ^ 255;
+        x += 1;
     }
 }
 

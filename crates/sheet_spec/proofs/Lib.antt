@@ -9,7 +9,9 @@ pub mod NamedInputs
 pub mod OrderHeights
 pub mod OrderRule
 pub mod Orders
+pub mod OrdinarySheets
 pub mod Promises
 pub mod RecordFields
+pub mod StopRecords
 pub mod Tables
 pub mod Words

@@ -14,10 +14,10 @@ use Rattle.laws.proofs.Cases.{and-split}
 use Rattle.laws.proofs.Tests.{every-at, any-out}
 use Rattle.laws.proofs.Find.{least-hit}
 use Rattle.laws.proofs.Masks.{least-counted}
-use Rattle.sheet_spec.specs.Records.{recordCount, byte, mask, values, zeros, ones}
+use Rattle.sheet_spec.specs.Records.{recordCount, byte, kind, mask, values, zeros, ones}
 use Rattle.sheet_spec.specs.Refusals.{malformed, anyMalformed, times, eachOnce, notEachOnce, placeOf}
 
--- no bit outside n or m, no value bit outside the mask, no output in bytes 4 and 5
+-- no bit outside n or m, no value bit outside the mask, no output in bytes 4 and 5, byte 6 at most 1
 pub record Good (n m : ℕ) (s : List ℕ) (r : ℕ) : Type 0 where
   pub mask-low : mask s r < 2 ^ n
   pub values-low : values s r < 2 ^ n
@@ -25,21 +25,21 @@ pub record Good (n m : ℕ) (s : List ℕ) (r : ℕ) : Type 0 where
   pub ones-low : ones s r < 2 ^ m
   pub values-in : bitAnd (values s r) (mask s r) ≡ values s r
   pub parted : bitAnd (zeros s r) (ones s r) ≡ 0
+  pub kind-low : kind s r < 2
 
-pub good-at : (n m : ℕ) (s : List ℕ) → anyMalformed n m s ≡ false → (r : ℕ) → r < recordCount s → Good n m s r
-unfolding malformed anyMalformed
-good-at n m s e r h =
+pub good-of : (n m : ℕ) (s : List ℕ) (r : ℕ) → malformed n m s r ≡ false → Good n m s r
+unfolding malformed
+good-of n m s r e =
     let a1 = ltb (mask s r) (2 ^ n) in
     let a2 = a1 && ltb (values s r) (2 ^ n) in
     let a3 = a2 && ltb (zeros s r) (2 ^ m) in
     let a4 = a3 && ltb (ones s r) (2 ^ m) in
     let a5 = a4 && eqb (bitAnd (values s r) (mask s r)) (values s r) in
     let a6 = a5 && eqb (bitAnd (zeros s r) (ones s r)) 0 in
-    let a7 = a6 && eqb (byte s r 6) 0 in
-    let p8 = not-false (a7 && eqb (byte s r 7) 0) (any-out (malformed n m s) (recordCount s) e r h) in
-    let p7 = and-split a7 (eqb (byte s r 7) 0) p8 .0 in
-    let p6 = and-split a6 (eqb (byte s r 6) 0) p7 .0 in
-    let p5 = and-split a5 (eqb (bitAnd (zeros s r) (ones s r)) 0) p6 in
+    let a7 = a6 && ltb (kind s r) 2 in
+    let p7 = and-split a7 (eqb (byte s r 7) 0) (not-false (a7 && eqb (byte s r 7) 0) e) .0 in
+    let p6 = and-split a6 (ltb (kind s r) 2) p7 in
+    let p5 = and-split a5 (eqb (bitAnd (zeros s r) (ones s r)) 0) (p6 .0) in
     let p4 = and-split a4 (eqb (bitAnd (values s r) (mask s r)) (values s r)) (p5 .0) in
     let p3 = and-split a3 (ltb (ones s r) (2 ^ m)) (p4 .0) in
     let p2 = and-split a2 (ltb (zeros s r) (2 ^ m)) (p3 .0) in
@@ -51,7 +51,12 @@ good-at n m s e r h =
       ones-low = ltb-true (ones s r) (2 ^ m) (p3 .1);
       values-in = eqb-true (bitAnd (values s r) (mask s r)) (values s r) (p4 .1);
       parted = eqb-true (bitAnd (zeros s r) (ones s r)) 0 (p5 .1);
+      kind-low = ltb-true (kind s r) 2 (p6 .1);
     }
+
+pub good-at : (n m : ℕ) (s : List ℕ) → anyMalformed n m s ≡ false → (r : ℕ) → r < recordCount s → Good n m s r
+unfolding anyMalformed
+good-at n m s e r h = good-of n m s r (any-out (malformed n m s) (recordCount s) e r h)
 
 -- the order has n + m places; a variable in it stands at its place
 module _ (n m : ℕ) (order : List ℕ) (e : notEachOnce n m order ≡ false) where

@@ -1,4 +1,4 @@
--- The records of a sheet (document 01, "The sheet"). A sheet is the list of its bytes; w is an input word, o an output, i an input.
+-- The records of a sheet (document 01, "The sheet"; their kinds by document 02, §3). A sheet is the list of its bytes; w is an input word, o an output, i an input.
 -- Assumes nothing.
 use Prim.Native.Nat.{ℕ, _+_, _*_, _/_}
 use mathlib.Core.Bool.{Bool}
@@ -29,6 +29,16 @@ zeros s r = byte s r 4
 
 abbrev pub ones : List ℕ → ℕ → ℕ
 ones s r = byte s r 5
+
+-- byte 6: 1 for a stop record, 0 for an ordinary one
+abbrev pub kind : List ℕ → ℕ → ℕ
+kind s r = byte s r 6
+
+abbrev pub ordinary : ℕ
+ordinary = 0
+
+abbrev pub stop : ℕ
+stop = 1
 
 -- a record matches an input word that equals its values on its mask
 unfoldable pub matches : List ℕ → ℕ → ℕ → Bool

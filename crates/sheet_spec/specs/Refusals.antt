@@ -1,4 +1,4 @@
--- Refusals 1 to 6, each as its own test, and the least one (document 01, "Who can cause a refusal"; 6 as document 02, §1, has it).
+-- Refusals 1 to 6, each as its own test, and the least one (document 01, "Who can cause a refusal"; 6 as document 02, §1, has it, 4 and 5 as §3).
 -- Assumes nothing.
 use Prim.Native.Nat.{ℕ, _+_, _%_, _-_, _^_}
 use mathlib.Core.Bool.{Bool, not, cond, _&&_, _||_}
@@ -8,7 +8,7 @@ use lib.ListN.{length, getD}
 use lib.Bits.{bitAnd}
 use Rattle.laws.specs.Tests.{any, every, count, least, within}
 use Rattle.sheet_spec.specs.Limits.{mostInputs, mostOutputs, largestInputs, largestOutputs, sheetBytes}
-use Rattle.sheet_spec.specs.Records.{recordCount, byte, mask, values, zeros, ones, matches, forces0, forces1}
+use Rattle.sheet_spec.specs.Records.{recordCount, byte, kind, mask, values, zeros, ones, matches, forces0, forces1}
 use Rattle.sheet_spec.specs.Job.{Job, t, outputByte}
 use Rattle.sheet_spec.specs.Values.{depends}
 
@@ -38,14 +38,14 @@ refuse2 j = notEachOnce (j .n) (j .m) (j .order)
 unfoldable pub refuse3 : List ℕ → Bool
 refuse3 s = not (eqb (length s % 8) 0) || ltb sheetBytes (length s)
 
--- of record r: a bit outside n or m, a value bit outside the mask, one output in bytes 4 and 5, or 6 and 7 not zero
+-- of record r: a bit outside n or m, a value bit outside the mask, one output in bytes 4 and 5, byte 6 above 1, or byte 7 not zero
 unfoldable pub malformed : ℕ → ℕ → List ℕ → ℕ → Bool
 malformed n m s r =
     not
     (ltb (mask s r) (2 ^ n) && ltb (values s r) (2 ^ n) && ltb (zeros s r) (2 ^ m) && ltb (ones s r) (2 ^ m)
     && eqb (bitAnd (values s r) (mask s r)) (values s r)
     && eqb (bitAnd (zeros s r) (ones s r)) 0
-    && eqb (byte s r 6) 0
+    && ltb (kind s r) 2
     && eqb (byte s r 7) 0)
 
 -- 4: such a record
@@ -55,7 +55,10 @@ anyMalformed n m s = any (recordCount s) (malformed n m s)
 unfoldable pub refuse4 : Job → List ℕ → Bool
 refuse4 j s = anyMalformed (j .n) (j .m) s
 
--- records r and q match a common word; r forces an output to 0 that q forces to 1
+-- records r and q are of one kind; they match a common word; r forces an output to 0 that q forces to 1
+unfoldable pub alike : List ℕ → ℕ → ℕ → Bool
+alike s r q = eqb (kind s r) (kind s q)
+
 unfoldable pub common : ℕ → List ℕ → ℕ → ℕ → Bool
 common n s r q = any (2 ^ n) (λ w. matches s r w && matches s q w)
 
@@ -63,9 +66,9 @@ unfoldable pub opposed : ℕ → List ℕ → ℕ → ℕ → Bool
 opposed m s r q = any m (λ o. forces0 s r o && forces1 s q o)
 
 unfoldable pub clash : ℕ → ℕ → List ℕ → ℕ → ℕ → Bool
-clash n m s r q = opposed m s r q && common n s r q
+clash n m s r q = alike s r q && (opposed m s r q && common n s r q)
 
--- 5: two records match a common word and force one output both ways
+-- 5: two records of one kind match a common word and force one output both ways, whatever else matches it
 unfoldable pub refuse5 : Job → List ℕ → Bool
 refuse5 j s = any (recordCount s) (λ r. any (recordCount s) (clash (j .n) (j .m) s r))
 

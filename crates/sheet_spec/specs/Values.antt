@@ -1,4 +1,4 @@
--- What a sheet says of an output for a word (document 01, "The sheet"), and on which inputs that depends (document 02, §1).
+-- What a sheet says of an output for a word (document 01, "The sheet"; stop records by document 02, §3), and on which inputs that depends (document 02, §1).
 -- Assumes nothing.
 use Prim.Native.Nat.{ℕ, _^_}
 use mathlib.Core.Bool.{Bool, not, cond, _&&_, _||_}
@@ -6,22 +6,26 @@ use mathlib.Core.List.{List}
 use lib.Dec.{eqb}
 use lib.Bits.{bitXor}
 use Rattle.laws.specs.Tests.{any}
-use Rattle.sheet_spec.specs.Records.{recordCount, matches, forces0, forces1}
+use Rattle.sheet_spec.specs.Records.{recordCount, kind, ordinary, stop, matches, forces0, forces1}
 
--- a matching record forces output o to 0; to 1
-unfoldable pub forcedTo0 : List ℕ → ℕ → ℕ → Bool
-forcedTo0 s w o = any (recordCount s) (λ r. matches s r w && forces0 s r o)
+-- a matching record of kind k forces output o to 0; to 1
+unfoldable pub forcedTo0 : List ℕ → ℕ → ℕ → ℕ → Bool
+forcedTo0 s k w o = any (recordCount s) (λ r. eqb (kind s r) k && (matches s r w && forces0 s r o))
 
-unfoldable pub forcedTo1 : List ℕ → ℕ → ℕ → Bool
-forcedTo1 s w o = any (recordCount s) (λ r. matches s r w && forces1 s r o)
+unfoldable pub forcedTo1 : List ℕ → ℕ → ℕ → ℕ → Bool
+forcedTo1 s k w o = any (recordCount s) (λ r. eqb (kind s r) k && (matches s r w && forces1 s r o))
 
 -- free, d
 abbrev pub free : ℕ
 free = 2
 
--- an output is 0 or 1 for a word if a matching record forces it, else free
+-- an output is 0 or 1 for a word if a matching record of kind k forces it, else what is said otherwise
+unfoldable pub valueBy : List ℕ → ℕ → ℕ → ℕ → ℕ → ℕ
+valueBy s k w o otherwise = cond (forcedTo0 s k w o) 0 (cond (forcedTo1 s k w o) 1 otherwise)
+
+-- a stop record decides, else an ordinary one, else the output is free
 unfoldable pub value : List ℕ → ℕ → ℕ → ℕ
-value s w o = cond (forcedTo0 s w o) 0 (cond (forcedTo1 s w o) 1 free)
+value s w o = valueBy s stop w o (valueBy s ordinary w o free)
 
 -- a value b is allowed where the output is that value or free
 unfoldable pub allows : ℕ → ℕ → Bool

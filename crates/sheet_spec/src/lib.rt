@@ -9,6 +9,11 @@ pub const MOST_VARIABLES: usize = MOST_INPUTS + MOST_OUTPUTS;
 
 pub const SHEET_BYTES: usize = 2048;
 
+// Byte 6 of an ordinary and of a stop record.
+pub const ORDINARY: u8 = 0;
+
+pub const STOP: u8 = 1;
+
 // A line of 4,096 values for each output.
 pub const TABLE_BYTES: usize = MOST_OUTPUTS * 4096;
 

@@ -85,7 +85,7 @@ module _ (j : Job) (s : List ℕ) (c : Accepted (j .n) (j .m) (j .order) s)
       has-or (bitXor (getD zs x 0) (getD zs y 0)) (bitXor (getD ys x 0) (getD ys y 0)) o
       ∙ ap₂ _||_ (has-xor (getD zs x 0) (getD zs y 0) o) (has-xor (getD ys x 0) (getD ys y 0) o)
       ∙ sym (told-apart (has (getD zs x 0) o) (has (getD ys x 0) o) (has (getD zs y 0) o) (has (getD ys y 0) o) (once x o x< o<) (once y o y< o<))
-      ∙ ap₂ (λ (a b : ℕ). not (eqb a b)) (value-at x o x<) (value-at y o y<)
+      ∙ ap₂ (λ (a b : ℕ). not (eqb a b)) (value-at x o x< o<) (value-at y o y< o<)
 
   -- one input turned, in the place and in the word
   module _ (q : ℕ) (q< : q < j .n) where

@@ -6,34 +6,19 @@ use mathlib.Core.List.{List}
 use Prim.Native.Nat.{ℕ, zero, suc, _+_, _*_, _%_, _^_, _<_, _≤_}
 use native.Mathlib.Nat.{add-comm, mod-eq-of-lt}
 use native.Mathlib.Omega.{arith}
-use lib.Dec.{eqb, ltb}
+use lib.Dec.{eqb}
 use lib.ListN.{length, getD}
 use lib.Bits.{bitAnd, bitOr, and-le-r, or-shifted-r}
-use borrow.Author.Tests.{eqb-true, ltb-true, not-false}
 use Rattle.laws.specs.Tests.{sum}
 use Rattle.laws.specs.Bits.{bit}
-use Rattle.laws.proofs.Cases.{and-split}
 use Rattle.laws.proofs.Bits.{bit-lt}
 use Rattle.laws.proofs.Powers.{sum-small}
-use Rattle.sheet_spec.specs.Records.{byte, mask, values, zeros, ones, matches}
+use Rattle.sheet_spec.specs.Records.{mask, values, matches}
 use Rattle.sheet_spec.specs.Job.{inputsTo, wordOf, numberOf}
 use Rattle.sheet_spec.specs.Refusals.{notEachOnce, malformed}
 use Rattle.sheet.specs.Planes.{agrees, numberTo}
+use Rattle.sheet_spec.proofs.RecordFields.{good-of}
 use Rattle.sheet_spec.proofs.Words.{number-sum, number-and, number-test}
-
--- what a record that is not malformed keeps to
-record-kept : (n m : ℕ) (s : List ℕ) (r : ℕ) → malformed n m s r ≡ false
-    → (mask s r < 2 ^ n) × (values s r < 2 ^ n) × (bitAnd (values s r) (mask s r) ≡ values s r)
-unfolding malformed
-record-kept n m s r h =
-    let a = and-split _ (eqb (byte s r 7) 0) (not-false _ h) in
-    let b = and-split _ (eqb (byte s r 6) 0) (a .0) in
-    let c = and-split _ (eqb (bitAnd (zeros s r) (ones s r)) 0) (b .0) in
-    let d = and-split _ (eqb (bitAnd (values s r) (mask s r)) (values s r)) (c .0) in
-    let e = and-split _ (ltb (ones s r) (2 ^ m)) (d .0) in
-    let f = and-split _ (ltb (zeros s r) (2 ^ m)) (e .0) in
-    let g = and-split (ltb (mask s r) (2 ^ n)) (ltb (values s r) (2 ^ n)) (f .0) in
-    (ltb-true (mask s r) (2 ^ n) (g .0), ltb-true (values s r) (2 ^ n) (g .1), eqb-true _ (values s r) (d .1))
 
 -- a record matches the word of x where the number x has its values on its mask, both read down the order
 module _ (n m : ℕ) (order : List ℕ) (once : notEachOnce n m order ≡ false) (few : n ≤ 12) (out : m ≤ 8) where
@@ -43,10 +28,10 @@ module _ (n m : ℕ) (order : List ℕ) (once : notEachOnce n m order ≡ false)
   unfolding matches agrees
   matches-number s r x h l =
       let is = inputsTo (n + m) order (n + m) in
-      let kept = record-kept n m s r h in
+      let good = good-of n m s r h in
       let less = and-le-r (wordOf is x) (mask s r) in
-      ap (eqb (bitAnd (wordOf is x) (mask s r))) (kept .2)
-      ∙ number-test n m order once few out (bitAnd (wordOf is x) (mask s r)) (values s r) (omega arith) (kept .1)
+      ap (eqb (bitAnd (wordOf is x) (mask s r))) (good .values-in)
+      ∙ number-test n m order once few out (bitAnd (wordOf is x) (mask s r)) (values s r) (omega (arith, good .mask-low)) (good .values-low)
       ∙ ap (λ (k : ℕ). eqb k (numberOf is (values s r))) (number-and n m order once few out x (mask s r) l)
 
 -- the number as the code reads it, input by input

@@ -1,32 +1,32 @@
 -- `sheet::lines::plane_of` meets its contract.
 -- Assumes nothing.
-use mathlib.Core.Path.{_∙_}
+use mathlib.Core.Path.{refl, sym, _∙_}
 use borrow.Author.Needs.{needs}
-use Rattle.sheet.specs.Planes.{byteArray}
-use Rattle.sheet.proofs.lines.TableMade.{planed}
+use Rattle.sheet.specs.Planes.{planeOf}
 use Rattle.sheet.proofs.lines.plane_of.Statement.{statement}
 use Rattle.sheet.proofs.lines.plane_of.Tie as tie
 
-load-byte-requires : tie.Need-load-byte-requires
-load-byte-requires c κs = search needs
+ordinary-plane-requires : tie.Need-ordinary-plane-requires
+ordinary-plane-requires c κs = search needs
 
-mark-high-requires : tie.Need-mark-high-requires
-mark-high-requires c κs = search needs
+any-stop-requires : tie.Need-any-stop-requires
+any-stop-requires c κs = search needs
 
-mark-low-requires : tie.Need-mark-low-requires
-mark-low-requires c κs = search needs
-
-spread-requires : tie.Need-spread-requires
-spread-requires c κs = search needs
+lay-stops-requires : tie.Need-lay-stops-requires
+lay-stops-requires c κs = search needs
 
 returns : tie.Need-returns
-unfolding byteArray
+unfolding planeOf
 returns c =
-    let a = c .before .before .before .before .before .before .before .before .before .before .before .before .args in
-    c .spread .ensures
-    ∙ planed (a .masks .now) (a .values .now) (a .sheet .now) (a .at) (a .plane .now) _ _ _ (c .before .before .before .before .before .before .before .before .before .before .before .before .pre .2) (c .before .before .before .before .before .before .before .before .before .load-byte .ensures) (c .before .before .before .before .before .before .mark-high .ensures) (c .before .before .before .mark-low .ensures)
+    let f = c .before .before .before in
+    c .lay-stops .ensures ∙ rw (f .before .ordinary-plane .ensures, sym (f .any-stop .ensures) ∙ c .before .before .if1 .taken) refl
+
+returns-2 : tie.Need-returns-2
+unfolding planeOf
+returns-2 c =
+    c .before .before .ordinary-plane .ensures ∙ rw (sym (c .before .any-stop .ensures) ∙ c .if1 .left) refl
 
 pub plane-of-spec : {M : Type 1} → statement M
 plane-of-spec =
     tie.close
-    (tie.spec load-byte-requires mark-high-requires mark-low-requires spread-requires returns)
+    (tie.spec ordinary-plane-requires any-stop-requires lay-stops-requires returns returns-2)

@@ -12,6 +12,9 @@ load-requires c κs = search needs
 load-requires-2 : tie.Need-load-requires-2
 load-requires-2 c κs = search needs
 
+add-kinds-requires : tie.Need-add-kinds-requires
+add-kinds-requires c κs = search needs
+
 load-requires-3 : tie.Need-load-requires-3
 load-requires-3 c κs = search needs
 
@@ -23,10 +26,14 @@ hit-among-requires c κs = search needs
 
 returns : tie.Need-returns
 returns c =
-    let d = c .before .before .before .before .before in
-    let a = d .before .before .before .before .before .before .before .before .before in
-    any-hit-of (now (a .args .sheet)) (a .pre) (d .before .before .before .before .before .before .load .ensures) (d .before .before .before .before .load2 .ensures)
-    (d .before .before .load3 .ensures) (d .load4 .ensures) (c .hit-among .ensures)
+    let g = c .before .before .before .before .before in
+    let f = g .before .before in
+    let k = f .before .before in
+    let v = k .before .before .before in
+    let m = v .before .before in
+    let a = m .before .before .before in
+    any-hit-of (now (a .args .sheet)) (a .pre) (m .load .ensures) (v .load2 .ensures) (k .add-kinds .ensures .0) (k .add-kinds .ensures .1)
+    (f .load3 .ensures) (g .load4 .ensures) (c .hit-among .ensures)
 
 pub any-hit-spec : {M : Type 1} → statement M
 any-hit-spec =
@@ -34,6 +41,7 @@ any-hit-spec =
     (tie.spec
     load-requires
     load-requires-2
+    add-kinds-requires
     load-requires-3
     load-requires-4
     hit-among-requires
