@@ -20,5 +20,6 @@ mod ScanClaims
 mod Scans
 pub mod StateSizes
 mod StepAsBook
+pub mod StopOutputs
 mod UnreadInputs
 pub mod UpperBits
