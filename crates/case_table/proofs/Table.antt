@@ -1,4 +1,4 @@
--- The case table of document 01, proved: each case by computing with the definitions.
+-- The case table, proved: each case by computing with the definitions.
 -- Assumes nothing.
 use mathlib.Core.Path.{refl}
 use Rattle.sheet_spec.specs.Opened.{sheetOpened}
@@ -31,4 +31,6 @@ case-table =
       L = refl;
       L-rows = refl;
       L-book = refl;
+      S = refl;
+      S-ordinary = refl;
     }

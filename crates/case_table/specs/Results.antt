@@ -1,4 +1,4 @@
--- What the case table says: the cascades of A, B, C and F.
+-- What the case table says: the cascades of A, B, C, F and S.
 -- Assumes nothing.
 use Prim.Native.Nat.{ℕ}
 use mathlib.Core.List.{List, [], _∷_}
@@ -81,6 +81,16 @@ resultF =
       nodes = node 2 3 3 ∷ node 1 1 1 ∷ node 7 8 9 ∷ [];
       records = 0 ∷ 0 ∷ 0 ∷ 0 ∷ 128 ∷ 1 ∷ 0 ∷ 0 ∷ 77 ∷ [];
       rows = 0 ∷ 0 ∷ 77 ∷ [];
+    }
+
+-- S: with the lid shut (places 00 and 01) free is merged with 1, with the lid open (10 and 11) the valve is 0: one cell, rows 1 1 0 0
+abbrev pub resultS : Compiled
+resultS =
+    record {
+      answer = accepted record { nodes = 5; cells = 1; rows = 4; bits = 4; widths = 1 ∷ 2 ∷ 2 ∷ [] };
+      nodes = node 3 3 4 ∷ node 2 5 5 ∷ node 2 6 6 ∷ node 1 0 1 ∷ node 1 1 0 ∷ [];
+      records = 0 ∷ 0 ∷ 0 ∷ 0 ∷ 1 ∷ 0 ∷ 0 ∷ 0 ∷ 128 ∷ 1 ∷ 0 ∷ 0 ∷ [];
+      rows = 1 ∷ 1 ∷ 0 ∷ 0 ∷ [];
     }
 
 -- refused with the number, all lent memory as it was

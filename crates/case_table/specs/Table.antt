@@ -1,4 +1,4 @@
--- The case table of document 01, A to L, as one statement; E as document 02, §1, has it.
+-- The case table of document 01, A to L, as one statement; E as document 02, §1, has it, and its example of §3, S.
 -- Assumes nothing.
 use mathlib.Core.Path.{_≡_}
 use mathlib.Core.List.{List, [], _∷_, _++_}
@@ -11,10 +11,10 @@ use Rattle.bank_spec.specs.State.{fresh}
 use Rattle.bank_spec.specs.Calls.{Answer, accepted, refused}
 use Rattle.bank_spec.specs.Book.{newBook}
 use Rattle.bank_spec.specs.CallLists.{Call, admission, Entry, trace, bookTrace, stateAfter}
-use Rattle.sheet_spec.specs.Example.{T, fullT, jobT, jobAbove, jobF, clashing}
+use Rattle.sheet_spec.specs.Example.{T, fullT, jobT, jobAbove, jobF, clashing, jobS, washing, unstopped}
 use Rattle.cutting_spec.specs.Example.{recordsA, rowsA}
 use Rattle.case_table.specs.Lent.{oldBytes, lending}
-use Rattle.case_table.specs.Results.{resultA, listingA, resultB, resultC, resultF, refusedWith}
+use Rattle.case_table.specs.Results.{resultA, listingA, resultB, resultC, resultF, resultS, refusedWith}
 
 -- A's block admitted twice, on row memory for both
 abbrev pub twice : List Call
@@ -58,3 +58,6 @@ pub record CaseTable : Type 0 where
   pub L : trace (fresh 4 (oldBytes 32)) twice ≡ entry accepted 1 ∷ entry accepted 2 ∷ []
   pub L-rows : stateAfter (fresh 4 (oldBytes 32)) twice .rows ≡ rowsA ++ rowsA
   pub L-book : bookTrace 4 32 newBook twice ≡ entry accepted 1 ∷ entry accepted 2 ∷ []
+  -- a wash line opens the valve, a stop line closes it while the lid is open; with an ordinary line for the lid: 5
+  pub S : lending 5 12 4 jobS washing ≡ resultS
+  pub S-ordinary : lending 5 12 4 jobS unstopped ≡ refusedWith 5 5 12 4

@@ -6,11 +6,11 @@ use mathlib.Core.List.{List, [], _∷_, _++_}
 use Prim.Native.Nat.{ℕ}
 use Rattle.sheet_spec.specs.Opened.{sheetOpened}
 use Rattle.sheet_spec.specs.Job.{inputList, wordOf, numberOf}
-use Rattle.sheet_spec.specs.Values.{depends}
+use Rattle.sheet_spec.specs.Values.{value, depends}
 use Rattle.sheet_spec.specs.Refusals.{sheetRefusal}
 use Rattle.sheet_spec.specs.Table.{table}
 use Rattle.sheet_spec.specs.Characteristic.{chi}
-use Rattle.sheet_spec.specs.Example.{line, T, fullT, jobT, jobAbove, jobF, clashing}
+use Rattle.sheet_spec.specs.Example.{line, stopLine, T, fullT, jobT, jobAbove, jobF, clashing, jobS, washing, unstopped}
 
 -- the lines of y2 and of y1, as the truth table prints them down its rows
 abbrev y2 : List ℕ
@@ -49,6 +49,37 @@ forced-free = (refl, refl, refl)
 pub clashing-refused : sheetRefusal jobF clashing ≡ 5
 unfolding sheetOpened
 clashing-refused = refl
+
+-- places 00, 01, 10 and 11: the lid is open in the last two, and there the valve is shut. Without the stop line's mark it is a clash
+pub washing-table : (sheetRefusal jobS washing ≡ 0) × (table jobS washing ≡ 2 ∷ 1 ∷ 0 ∷ 0 ∷ []) × (sheetRefusal jobS unstopped ≡ 5)
+unfolding sheetOpened
+washing-table = (refl, refl, refl)
+
+-- a stop record's place in the sheet does not matter, nor which way it forces
+pub stop-first : (table jobS (stopLine 1 1 1 0 ++ line 2 2 0 1) ≡ 2 ∷ 1 ∷ 0 ∷ 0 ∷ []) × (table jobS (stopLine 1 1 0 1 ++ line 2 2 1 0) ≡ 2 ∷ 0 ∷ 1 ∷ 1 ∷ [])
+unfolding sheetOpened
+stop-first = (refl, refl)
+
+-- two ordinary records clash where a stop record decides; two stop records clash
+pub still-clashing : (sheetRefusal jobF (clashing ++ stopLine 0 0 1 0) ≡ 5) × (sheetRefusal jobF (stopLine 0 0 1 0 ++ stopLine 1 1 0 1) ≡ 5)
+unfolding sheetOpened
+still-clashing = (refl, refl)
+
+-- a stop record decides only of the outputs that it names
+pub stop-other : (value (line 0 0 0 1 ++ stopLine 0 0 2 0) 0 0 ≡ 1) × (value (line 0 0 0 1 ++ stopLine 0 0 2 0) 0 1 ≡ 0)
+unfolding sheetOpened
+stop-other = (refl, refl)
+
+-- byte 6 of 2, byte 7 of 1 in a stop record, a stop record that forces an output both ways
+pub kinds-refused : (sheetRefusal jobF (0 ∷ 0 ∷ 0 ∷ 0 ∷ 1 ∷ 0 ∷ 2 ∷ 0 ∷ []) ≡ 4) × (sheetRefusal jobF (0 ∷ 0 ∷ 0 ∷ 0 ∷ 1 ∷ 0 ∷ 1 ∷ 1 ∷ []) ≡ 4)
+    × (sheetRefusal jobF (stopLine 0 0 1 1) ≡ 4)
+unfolding sheetOpened
+kinds-refused = (refl, refl, refl)
+
+-- a stop record takes a dependence away, and makes one
+pub stopped-dependence : (depends 1 (line 1 1 0 1 ++ stopLine 0 0 1 0) 0 0 ≡ false) × (depends 1 (line 0 0 0 1 ++ stopLine 1 1 1 0) 0 0 ≡ true)
+unfolding sheetOpened
+stopped-dependence = (refl, refl)
 
 -- row 0011 of the truth table is the word with inputs 2 and 3
 pub word-0011 : wordOf (inputList (jobT 3 2)) 3 ≡ 12

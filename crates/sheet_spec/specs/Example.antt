@@ -1,4 +1,4 @@
--- The sheets and jobs of the worked examples (document 01, "The case table"; document 02, §1).
+-- The sheets and jobs of the worked examples (document 01, "The case table"; document 02, §1 and §3).
 -- Assumes nothing.
 use Prim.Native.Nat.{ℕ}
 use mathlib.Core.List.{List, [], _∷_, _++_}
@@ -7,6 +7,10 @@ use Rattle.sheet_spec.specs.Job.{Job}
 -- a record that tests inputs 0 to 7: mask, values, outputs forced to 0, outputs forced to 1
 abbrev pub line : ℕ → ℕ → ℕ → ℕ → List ℕ
 line k v z o = k ∷ 0 ∷ v ∷ 0 ∷ z ∷ o ∷ 0 ∷ 0 ∷ []
+
+-- the same as a stop record
+abbrev pub stopLine : ℕ → ℕ → ℕ → ℕ → List ℕ
+stopLine k v z o = k ∷ 0 ∷ v ∷ 0 ∷ z ∷ o ∷ 1 ∷ 0 ∷ []
 
 -- T is table 1 of document 000 as nine records; input 0 is x1, output 0 is y1.
 -- For y1, x1x2x3 = 001, 100 give 0 and 011, 101, 110 give 1
@@ -51,3 +55,14 @@ jobF = record { n = 1; m = 1; K = 2; L = 1; order = 0 ∷ 128 ∷ [] }
 -- two mask-0 records, output 0 as 0 and as 1
 abbrev pub clashing : List ℕ
 clashing = line 0 0 1 0 ++ line 0 0 0 1
+
+-- x1 says that the lid is open, x2 that it is time to wash; y1 opens the wash valve. Order x1 x2 y1
+abbrev pub jobS : Job
+jobS = record { n = 2; m = 1; K = 3; L = 2; order = 0 ∷ 1 ∷ 128 ∷ [] }
+
+-- a wash line opens the valve, and a stop line closes it while the lid is open; the same with an ordinary line for the lid
+abbrev pub washing : List ℕ
+washing = line 2 2 0 1 ++ stopLine 1 1 1 0
+
+abbrev pub unstopped : List ℕ
+unstopped = line 2 2 0 1 ++ line 1 1 1 0
