@@ -20,7 +20,10 @@ extern "C" {
 #endif
 
 /* A job: n inputs (1 to 12), m outputs (1 to 8), cell limits of k inputs (2 to 12) and l outputs (1 to 8), and an
- * order of n + m bytes, top first: input i is i, output i is 128 + i. The sheet is records of 8 bytes. */
+ * order of n + m bytes, top first: input i is i, output i is 128 + i. The sheet is records of 8 bytes: 0 and 1 the mask
+ * of tested inputs, 2 and 3 their values, low byte first; 4 the outputs forced to 0, 5 those forced to 1; 6 is 1 for a stop
+ * record and 0 for an ordinary one; 7 is 0. Where a stop record and an ordinary one both name an output for a word, the
+ * stop record decides; what no record names is free. */
 
 /* Memory that is enough for every job. */
 #define CASCADE_NODE_WORDS 30720 /* 10,240 nodes: height, child for 0, child for 1 */
@@ -31,8 +34,9 @@ extern "C" {
 
 /* refusal is 0 where the job was accepted, else
  *   1  n, m, k or l out of range          2  the order is not each variable once
- *   3  length of the sheet                4  bits of a record
- *   5  two records contradict each other  6  an output stands above an input on which it depends
+ *   3  length of the sheet                4  bits or kind of a record
+ *   5  two records of one kind contradict each other, also where a stop record would decide
+ *   6  an output stands above an input on which it depends
  *   7  over 512 columns at some height    8  no cut list meets k and l
  *   9  nodes shorter than 3 words a node  10 records shorter than 4 x (n + m)
  *   11 rows shorter than the rows
