@@ -3,7 +3,7 @@
 //!
 //!     cc -shared -Wl,-Bsymbolic -Wl,--whole-archive libpanel.a -Wl,--no-whole-archive -o AFTER.so
 
-use proved::{call, Reduction, Totals, NODE_WORDS, WIDTHS};
+use proved::{call, Reduction, Totals, NODE_WORDS, TABLE_BYTES, WIDTHS};
 use second::fast::Compiler;
 use second::generate::{job, Family};
 use second::job::{Job, Lent, Node};
@@ -18,38 +18,23 @@ extern "C" {
 
 const RTLD_NOW: c_int = 2;
 
-type Reduce = unsafe extern "C" fn(
-    usize,
-    usize,
-    usize,
-    usize,
-    *const u8,
-    usize,
-    *const u8,
-    usize,
-    *mut [u16; WIDTHS],
-    *mut [u16; NODE_WORDS],
-) -> Reduction;
+/// A function of a job and what else it is lent.
+macro_rules! of_job {
+    ($($lent:ty),* => $answer:ty) => {
+        unsafe extern "C" fn(
+            usize, usize, usize, usize, *const u8, usize, *const u8, usize, $($lent),*
+        ) -> $answer
+    };
+}
 
-type Compile = unsafe extern "C" fn(
-    usize,
-    usize,
-    usize,
-    usize,
-    *const u8,
-    usize,
-    *const u8,
-    usize,
-    *mut u16,
-    usize,
-    *mut u8,
-    usize,
-    *mut u8,
-    usize,
-    *mut [u16; WIDTHS],
-) -> Totals;
+type Sheet = of_job!(*mut [u8; TABLE_BYTES] => u8);
+type Reduce = of_job!(*mut [u16; WIDTHS], *mut [u16; NODE_WORDS] => Reduction);
+type Compile = of_job!(
+    *mut u16, usize, *mut u8, usize, *mut u8, usize, *mut [u16; WIDTHS] => Totals
+);
 
 struct Archive {
+    sheet: Sheet,
     reduce: Reduce,
     compile: Compile,
 }
@@ -63,12 +48,14 @@ impl Archive {
             if object.is_null() {
                 return None;
             }
+            let sheet = dlsym(object, c"cascade_sheet_table".as_ptr());
             let reduce = dlsym(object, c"cascade_reduce".as_ptr());
             let compile = dlsym(object, c"cascade_compile".as_ptr());
-            if reduce.is_null() || compile.is_null() {
+            if [sheet, reduce, compile].iter().any(|found| found.is_null()) {
                 return None;
             }
             Some(Archive {
+                sheet: std::mem::transmute::<*mut c_void, Sheet>(sheet),
                 reduce: std::mem::transmute::<*mut c_void, Reduce>(reduce),
                 compile: std::mem::transmute::<*mut c_void, Compile>(compile),
             })
@@ -77,6 +64,7 @@ impl Archive {
 }
 
 struct Memories {
+    table: Box<[u8; TABLE_BYTES]>,
     nodes: Box<[u16; NODE_WORDS]>,
     records: [u8; 80],
     rows: Vec<u8>,
@@ -84,6 +72,11 @@ struct Memories {
 }
 
 impl Memories {
+    fn sheet(&mut self, archive: &Archive, job: &Job) {
+        // SAFETY: the table is an array of its own.
+        std::hint::black_box(unsafe { call!(archive.sheet, job, &mut *self.table) });
+    }
+
     fn reduce(&mut self, archive: &Archive, job: &Job) {
         // SAFETY: widths and nodes are arrays of their own.
         std::hint::black_box(unsafe {
@@ -116,33 +109,34 @@ fn time(run: impl FnOnce()) -> f64 {
     began.elapsed().as_secs_f64() * 1e6
 }
 
-/// Microseconds of a job, each the least of sixteen: reduction before and after, compile before and after, and `fast`. Each
+/// Microseconds of a job, each the least of sixteen: sheet layer, reduction and compile, each before and after, and `fast`. Each
 /// archive goes first in every other round.
 fn least(
     job: &Job,
     archives: &[Archive; 2],
     lent: &mut Memories,
     fast: &mut dyn FnMut(),
-) -> [f64; 5] {
-    let mut least = [f64::MAX; 5];
+) -> [f64; 7] {
+    const LAYERS: [fn(&mut Memories, &Archive, &Job); 3] =
+        [Memories::sheet, Memories::reduce, Memories::compile];
+    let mut least = [f64::MAX; 7];
     for round in 0..16 {
-        for turn in 0..2 {
-            let which = (round + turn) % 2;
-            let reduced = time(|| lent.reduce(&archives[which], job));
-            least[which] = least[which].min(reduced);
+        for (layer, run) in LAYERS.iter().enumerate() {
+            for turn in 0..2 {
+                let which = (round + turn) % 2;
+                let place = 2 * layer + which;
+                let taken = time(|| run(lent, &archives[which], job));
+                least[place] = least[place].min(taken);
+            }
         }
-        for turn in 0..2 {
-            let which = (round + turn) % 2;
-            let compiled = time(|| lent.compile(&archives[which], job));
-            least[2 + which] = least[2 + which].min(compiled);
-        }
-        least[4] = least[4].min(time(&mut *fast));
+        least[6] = least[6].min(time(&mut *fast));
     }
     least
 }
 
 fn family(family: Family, jobs: u64, archives: &[Archive; 2]) {
     let mut lent = Memories {
+        table: Box::new([0; TABLE_BYTES]),
         nodes: Box::new([0; NODE_WORDS]),
         records: [0; 80],
         rows: vec![0; 32_768],
@@ -154,7 +148,7 @@ fn family(family: Family, jobs: u64, archives: &[Archive; 2]) {
         records: vec![0; 80],
         rows: vec![0; 32_768],
     };
-    let mut sums = [0.0; 5];
+    let mut sums = [0.0; 7];
     for index in 0..jobs {
         let job = job(family, 1, index);
         let mut fast = || {
@@ -165,14 +159,13 @@ fn family(family: Family, jobs: u64, archives: &[Archive; 2]) {
             *sum += time;
         }
     }
-    let [r, s, c, d, f] = sums.map(|sum| sum / jobs as f64);
-    println!(
-        "| {} | {r:.1} | {s:.1} | {:+.1} % | {c:.1} | {d:.1} | {:+.1} % | {f:.1} | {:.2} |",
-        family.name(),
-        (s / r - 1.0) * 100.0,
-        (d / c - 1.0) * 100.0,
-        d / f
-    );
+    let means = sums.map(|sum| sum / jobs as f64);
+    print!("| {} |", family.name());
+    for layer in means[..6].chunks_exact(2) {
+        let change = (layer[1] / layer[0] - 1.0) * 100.0;
+        print!(" {:.1} | {:.1} | {change:+.1} % |", layer[0], layer[1]);
+    }
+    println!(" {:.1} | {:.2} |", means[6], means[5] / means[6]);
 }
 
 fn main() -> ExitCode {
@@ -192,8 +185,8 @@ fn main() -> ExitCode {
     };
     let archives = [before, after];
     println!("Microseconds a job, least of sixteen taken in turn; `fast` and the ratio to it for a compile.");
-    println!("| family | reduce before | after | | compile before | after | | fast | ratio |");
-    println!("|---|---|---|---|---|---|---|---|---|");
+    println!("| family | sheet before | after | | reduce before | after | | compile before | after | | fast | ratio |");
+    println!("|---|---|---|---|---|---|---|---|---|---|---|---|");
     for each in Family::ALL {
         family(each, jobs, &archives);
     }
