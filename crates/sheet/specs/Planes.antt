@@ -80,8 +80,8 @@ highPlane ks vs fs c old = puts 4096 (λ x. marks (getD old x 0) (highAdded ks v
 unfoldable pub lowRow : List ℕ → List ℕ → List ℕ → ℕ → List ℕ
 lowRow ks vs fs c = puts 256 (λ i. marks (getD (replicate 256 0) i 0) (lowAdded ks vs fs i) c) (replicate 256 0)
 
-unfoldable pub marked : List ℕ → List ℕ → List ℕ → ℕ → List ℕ → List ℕ
-marked ks vs fs c old =
+unfoldable pub markedPlane : List ℕ → List ℕ → List ℕ → ℕ → List ℕ → List ℕ
+markedPlane ks vs fs c old =
     puts 4096 (λ x. bitOr (getD (highPlane ks vs fs c old) x 0) (getD (lowRow ks vs fs c) (x % 256) 0)) (highPlane ks vs fs c old)
 
 -- at each place the outputs that the plane does not hold
@@ -91,11 +91,11 @@ complemented p = puts 4096 (λ x. bitXor (getD p x 0) 255) p
 -- what the ordinary records force by byte at; the plane p after the stop records are laid over it: the outputs of the opposite byte, forced the other
 -- way, are taken out and those of byte at put in
 unfoldable pub ordinaryPlane : List ℕ → List ℕ → List ℕ → ℕ → List ℕ
-ordinaryPlane ks vs s at = marked ks vs (kindArray s ordinary at) (recordCount s) (replicate 4096 0)
+ordinaryPlane ks vs s at = markedPlane ks vs (kindArray s ordinary at) (recordCount s) (replicate 4096 0)
 
 unfoldable pub stopsOver : List ℕ → List ℕ → List ℕ → ℕ → ℕ → List ℕ → List ℕ
 stopsOver ks vs s at opposite p =
-    marked ks vs (kindArray s stop at) (recordCount s) (complemented (marked ks vs (kindArray s stop opposite) (recordCount s) (complemented p)))
+    markedPlane ks vs (kindArray s stop at) (recordCount s) (complemented (markedPlane ks vs (kindArray s stop opposite) (recordCount s) (complemented p)))
 
 -- some record is a stop record
 unfoldable pub anyStop : List ℕ → Bool

@@ -6,7 +6,7 @@ ghost use lib.Bits.{bitOr};
 ghost use lib.ListN.{getD};
 ghost use Rattle.laws.specs.Lists.{puts, putsAt};
 ghost use Rattle.laws.specs.Bits.{bit};
-ghost use Rattle.sheet.specs.Planes.{added, highForce, lowForce, highAdded, lowAdded, marked, complemented, numberTo, CountsUp};
+ghost use Rattle.sheet.specs.Planes.{added, highForce, lowForce, highAdded, lowAdded, markedPlane, complemented, numberTo, CountsUp};
 ghost use Rattle.laws.specs.Bits.{marks};
 use numbers::wide;
 use numbers::wide16;
@@ -203,7 +203,7 @@ pub fn mark(
 )
     requires { ⌜ count ≤ 256 ⌝ }
     ensures { λ _.
-        ⌜ now (plane .exit) ≡ marked (now (masks .entry)) (now (values .entry)) (now (forces .entry)) count (now (plane .entry)) ⌝ }
+        ⌜ now (plane .exit) ≡ markedPlane (now (masks .entry)) (now (values .entry)) (now (forces .entry)) count (now (plane .entry)) ⌝ }
 {
     mark_high(masks, values, forces, count, plane);
     let mut row = [0u8; 256];

@@ -15,7 +15,7 @@ use Rattle.laws.proofs.Puts.{getD-puts, length-puts, stored-over}
 use Rattle.laws.proofs.Bits.{has-or}
 use Rattle.laws.proofs.Masks.{has-cond, has-complement}
 use Rattle.laws.proofs.Marks.{marks-has, marks-over}
-use Rattle.sheet.specs.Planes.{agrees, added, highAdded, lowAdded, highPlane, lowRow, marked, complemented}
+use Rattle.sheet.specs.Planes.{agrees, added, highAdded, lowAdded, highPlane, lowRow, markedPlane, complemented}
 use Rattle.sheet.proofs.planes.PlaceBlocks.{added-parts}
 
 -- an output is forced at a place where a record forces it that has the place
@@ -47,13 +47,13 @@ module _ (ks vs fs : List ℕ) (c : ℕ) (p : List ℕ) (size : length p ≡ 409
   unfolding highPlane
   high-length = length-puts (λ x. marks (getD p x 0) (highAdded ks vs fs x) c) 4096 p ∙ size
 
-  pub marked-length : length (marked ks vs fs c p) ≡ 4096
-  unfolding marked
+  pub marked-length : length (markedPlane ks vs fs c p) ≡ 4096
+  unfolding markedPlane
   marked-length =
       length-puts (λ x. bitOr (getD (highPlane ks vs fs c p) x 0) (getD (lowRow ks vs fs c) (x % 256) 0)) 4096 (highPlane ks vs fs c p) ∙ high-length
 
-  pub marked-has : (x o : ℕ) → x < 4096 → has (getD (marked ks vs fs c p) x 0) o ≡ (has (getD p x 0) o || forcedAt ks vs fs c x o)
-  unfolding marked highPlane lowRow
+  pub marked-has : (x o : ℕ) → x < 4096 → has (getD (markedPlane ks vs fs c p) x 0) o ≡ (has (getD p x 0) o || forcedAt ks vs fs c x o)
+  unfolding markedPlane highPlane lowRow
   marked-has x o h =
       let high : getD (highPlane ks vs fs c p) x 0 ≡ marks (getD p x 0) (highAdded ks vs fs x) c =
       getD-puts (λ y. marks (getD p y 0) (highAdded ks vs fs y) c) 4096 p 0 x h (omega arith) in
@@ -79,12 +79,12 @@ abbrev pub over : Bool → Bool → Bool → Bool
 over f z y = not (not f || y) || z
 
 pub laid-has : (ks vs fs gs : List ℕ) (c : ℕ) (p : List ℕ) → length p ≡ 4096 → (x o : ℕ) → x < 4096 → o < 8
-    → has (getD (marked ks vs fs c (complemented (marked ks vs gs c (complemented p)))) x 0) o
+    → has (getD (markedPlane ks vs fs c (complemented (markedPlane ks vs gs c (complemented p)))) x 0) o
     ≡ over (has (getD p x 0) o) (forcedAt ks vs fs c x o) (forcedAt ks vs gs c x o)
 laid-has ks vs fs gs c p size x o h l =
     let q = complemented p in
     let q-size = complemented-length p size in
-    let t = marked ks vs gs c q in
+    let t = markedPlane ks vs gs c q in
     let t-size = marked-length ks vs gs c q q-size in
     marked-has ks vs fs c (complemented t) (complemented-length t t-size) x o h
     ∙ ap (λ (b : Bool). b || forcedAt ks vs fs c x o)

@@ -2,7 +2,7 @@
 -- Assumes nothing.
 use mathlib.Core.Path.{refl, _∙_}
 use borrow.Author.Needs.{needs}
-use Rattle.sheet.specs.Planes.{highPlane, lowRow, marked}
+use Rattle.sheet.specs.Planes.{highPlane, lowRow, markedPlane}
 use Rattle.sheet.proofs.planes.mark.Statement.{statement}
 use Rattle.sheet.proofs.planes.mark.Tie as tie
 
@@ -16,7 +16,7 @@ spread-requires : tie.Need-spread-requires
 spread-requires c κs = search needs
 
 returns : tie.Need-returns
-unfolding marked highPlane lowRow
+unfolding markedPlane highPlane lowRow
 returns c = c .spread .ensures ∙ rw (c .before .before .before .before .before .mark-high .ensures, c .before .before .before .mark-low .ensures) refl
 
 pub mark-spec : {M : Type 1} → statement M
