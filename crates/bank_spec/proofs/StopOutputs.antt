@@ -1,36 +1,25 @@
 -- What a stop record is for (document 02, §3): for every list of calls, an output of a compiled block is unset, or it is as a stop record forces it that matches the latched word,
 -- whatever the other records of the sheet say.
 -- Assumes nothing.
-use mathlib.Core.Path.{_≡_, refl, sym, _∙_}
+use mathlib.Core.Path.{_≡_}
 use mathlib.Core.Logic.{_⊎_, inl, inr}
 use mathlib.Core.Bool.{true}
 use mathlib.Core.List.{List}
 use Prim.Native.Nat.{ℕ, _<_}
 use native.Mathlib.Omega.{arith}
 use lib.ListN.{length}
-use borrow.Author.Tests.{ne-eqb}
 use Rattle.laws.specs.Tests.{within}
-use Rattle.laws.proofs.Cases.{either, by-equal}
-use Rattle.laws.proofs.Masks.{not-both}
+use Rattle.laws.proofs.Cases.{either}
 use Rattle.sheet_spec.specs.Job.{Job}
 use Rattle.sheet_spec.specs.Records.{recordCount, kind, stop, matches, forces0, forces1}
-use Rattle.sheet_spec.specs.Values.{value, allows}
-use Rattle.sheet_spec.proofs.Promises.{stop-decides}
+use Rattle.sheet_spec.specs.Values.{value}
+use Rattle.sheet_spec.proofs.Promises.{stop-decides, forced-only}
 use Rattle.bank_spec.specs.State.{fresh}
 use Rattle.bank_spec.specs.Book.{Block, newBook, blockAt}
 use Rattle.bank_spec.specs.CallLists.{Call, stateAfter, bookAfter}
 use Rattle.bank_spec.specs.Demand3.{CompiledBy, outputIn}
 use Rattle.bank_spec.proofs.CompiledBlocks.{compiled-sheet}
 use Rattle.bank_spec.proofs.Demand3.{demand3}
-
--- a forced value allows itself alone
-only : (v b c : ℕ) → c < 2 → v ≡ c → allows v b ≡ true → b ≡ c
-unfolding allows
-only v b c low e a =
-    by-equal v b (λ p. sym p ∙ e)
-    (λ p.
-    let free = ne-eqb v 2 (λ z. omega arith) in
-    not-both a (rw (ne-eqb v b p, free) refl))
 
 module _ (S : ℕ) (range : within 1 255 S ≡ true) (mem : List ℕ) (calls : List Call) (b : ℕ) (j : Job) (sheet : List ℕ) where
   abbrev block : Block
@@ -44,7 +33,7 @@ module _ (S : ℕ) (range : within 1 255 S ≡ true) (mem : List ℕ) (calls : L
     forced : (c : ℕ) → c < 2 → value sheet (block .word) o ≡ c → (output o ≡ 2) ⊎ (output o ≡ c)
     forced c low e =
         either (demand3 S range mem calls .allowed b j sheet held compiled o o<) (λ unset. inl unset)
-        (λ set. inr (only (value sheet (block .word) o) (output o) c low e (set .allowed)))
+        (λ set. inr (forced-only (value sheet (block .word) o) (output o) c low e (set .allowed)))
 
     pub stopped-0 : forces0 sheet r o ≡ true → (output o ≡ 2) ⊎ (output o ≡ 0)
     stopped-0 f = forced 0 (omega arith) (stop-decides j sheet (compiled-sheet j sheet block compiled) (block .word) o o< r r< hit stops .0 f)

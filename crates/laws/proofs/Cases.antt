@@ -63,6 +63,11 @@ and-split false b e = absurd (false≢true e)
 pub and-join : {a b : Bool} → a ≡ true → b ≡ true → (a && b) ≡ true
 and-join p q = rw (p, q)
 
+pub and-turn : (a b c : Bool) → (a && (b && c)) ≡ (b && (a && c))
+and-turn true b c = refl
+and-turn false true c = refl
+and-turn false false c = refl
+
 pub and-left-no : (a b : Bool) → a ≡ false → (a && b) ≡ false
 and-left-no a b e = rw e
 

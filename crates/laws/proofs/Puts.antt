@@ -44,6 +44,10 @@ module _ {A : Type 0} (f : ℕ → A) where
   getD-unput zero l d i h = refl
   getD-unput (suc n) l d i h = getD-set-other (puts n f l) n i (f n) d (λ e. absurd (omega arith)) ∙ getD-unput n l d i (omega arith)
 
+  -- the element that is stored to next is as it was
+  pub getD-next : (n : ℕ) (l s : List A) (d : A) → s ≡ puts n f l → getD s n d ≡ getD l n d
+  getD-next n l s d e = ap (λ (x : List A). getD x n d) e ∙ getD-unput n l d n (omega arith)
+
   -- a list long enough
   pub puts-filled : (n : ℕ) (l : List A) → n ≤ length l → puts n f l ≡ filled n f l
   unfolding puts putsAt

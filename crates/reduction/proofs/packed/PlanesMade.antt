@@ -15,7 +15,7 @@ use lib.Pow.{pow-pos, pow-mono, pow-lt, shl-lt}
 use Rattle.laws.specs.Tests.{any, every}
 use Rattle.laws.specs.Lists.{puts, putsAt}
 use Rattle.laws.specs.Bits.{has, marks}
-use Rattle.laws.proofs.Cases.{by-less, by-equal, cond-yes, cond-no, cond-both}
+use Rattle.laws.proofs.Cases.{by-less, by-equal, cond-yes, cond-no, cond-both, and-turn}
 use Rattle.laws.proofs.Tests.{every-at, any-ext, any-one, any-beside}
 use Rattle.laws.proofs.Lists.{row-end}
 use Rattle.laws.proofs.Puts.{getD-puts, getD-unput, length-puts, stored, getD-unputAt, getD-beforeAt, getD-putsAt, length-putsAt}
@@ -213,11 +213,6 @@ module _ (s v : ℕ) (firsts nums from to : List ℕ) (fits : v * s ≤ length t
       let k : g < n = omega arith in
       getD-beforeAt f (n * s) s old 0 (g * s + i) (omega (arith, row-end g n s k))) in
       kept ∙ sym (or-zero-r (getD old (g * s + i) 0)) ∙ ap₂ bitOr before (sym (cond-no (eqb n g) word 0 (ne-eqb n g e))))
-
-and-turn : (a b c : Bool) → (a && (b && c)) ≡ (b && (a && c))
-and-turn true b c = refl
-and-turn false true c = refl
-and-turn false false c = refl
 
 pub added-plane : (a b w v count : ℕ) (t : ℕ → ℕ → ℕ → Bool) (firsts nums from old : List ℕ) → Plane a b count t from
     → ((c : ℕ) → c < w → getD firsts c 0 < count)

@@ -14,7 +14,7 @@ use borrow.Author.Tests.{ltb-false}
 use Rattle.laws.specs.Tests.{any}
 use Rattle.laws.specs.Lists.{puts, rect}
 use Rattle.laws.specs.Bits.{has, flag}
-use Rattle.laws.proofs.Cases.{by-test, cond-yes, cond-no, and-left-no, or-split}
+use Rattle.laws.proofs.Cases.{by-test, cond-yes, cond-no, and-turn, and-left-no, or-split}
 use Rattle.laws.proofs.Tests.{any-none, any-ext, any-out}
 use Rattle.laws.proofs.Lists.{rect-ext}
 use Rattle.laws.proofs.Filled.{laid}
@@ -51,11 +51,6 @@ kind-has s k at r o = has-cond (eqb (kind s r) k) (byte s r at) o
 number-at : (is ws : List ℕ) (n r : ℕ) → r < 256 → getD (numberArray is n ws) r 0 ≡ numberTo 0 is n (getD ws r 0)
 unfolding numberArray
 number-at is ws n r = stored-over 256 (λ a k. numberTo a is n (getD ws k 0)) r
-
-and-turn : (a b c : Bool) → (a && (b && c)) ≡ (b && (a && c))
-and-turn true b c = refl
-and-turn false true c = refl
-and-turn false false c = refl
 
 -- the two planes give the value: what the stop records say, else what the others say, else 2. z and y are forced by stop records, f and g by others
 over-value : (z y f g : Bool) → _≡_ {A = ℕ} (cond (over f z y) 0 (cond (over g y z) 1 2)) (cond z 0 (cond y 1 (cond f 0 (cond g 1 2))))

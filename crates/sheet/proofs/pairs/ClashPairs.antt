@@ -3,8 +3,8 @@
 use mathlib.Core.Path.{_≡_, refl, sym, _∙_, ap, ap₂}
 use mathlib.Core.Bool.{Bool, true, false, not, _&&_, _||_, or-true, and-assoc, and-comm as and-swap}
 use mathlib.Core.List.{List}
-use Prim.Native.Nat.{ℕ, _+_, _*_, _%_, _^_, _<_, _≤_}
-use native.Mathlib.Nat.{add-comm, mod-eq-of-lt}
+use Prim.Native.Nat.{ℕ, zero, suc, _+_, _*_, _%_, _^_, _<_, _≤_}
+use native.Mathlib.Nat.{add-comm, zero-add, zero-mul, suc-mul, mod-eq-of-lt}
 use native.Mathlib.Omega.{arith}
 use lib.Dec.{eqb}
 use lib.Bits.{bitAnd, bitXor, and-block, xor-block, and-comm, and-lt, xor-lt, or-shifted-r}
@@ -12,7 +12,7 @@ use lib.Pow.{pow-mono}
 use borrow.Author.Tests.{eq-eqb, ne-eqb}
 use Rattle.laws.specs.Tests.{any}
 use Rattle.laws.specs.Bits.{has}
-use Rattle.laws.proofs.Cases.{by-test, by-less, by-equal, and-split, and-join, same-test, equal-sym}
+use Rattle.laws.proofs.Cases.{by-test, by-less, by-equal, and-split, and-join, and-left-no, same-test, equal-sym}
 use Rattle.laws.proofs.Tests.{any-of, any-at, any-ext}
 use Rattle.laws.proofs.Bits.{has-and}
 use Rattle.laws.proofs.Masks.{not-both, some-bit, apart, common-word}
@@ -21,11 +21,15 @@ use Rattle.sheet_spec.specs.Refusals.{anyMalformed, alike, common, opposed, cla
 use Rattle.sheet.specs.Pairs.{kindMask, kindValues, hit, anyHit}
 use Rattle.sheet_spec.proofs.RecordFields.{Good, good-at}
 
--- two numbers put together as bytes
-either-zero : (a b : ℕ) → not (eqb (a * 256 + b) 0) ≡ (not (eqb a 0) || not (eqb b 0))
-either-zero a b =
-    by-equal a 0 (λ e. let same : a * 256 + b ≡ b = omega arith in rw (same, eq-eqb a 0 e))
-    (λ e. rw (ne-eqb (a * 256 + b) 0 (λ z. e (omega arith)), ne-eqb a 0 e))
+-- a number of two digits is 0 where both are
+both-zero : (base a b : ℕ) → 0 < base → eqb (a * base + b) 0 ≡ (eqb a 0 && eqb b 0)
+both-zero base zero b h = ap (λ (x : ℕ). eqb (x + b) 0) (zero-mul base) ∙ ap (λ (x : ℕ). eqb x 0) (zero-add b)
+both-zero base (suc a) b h =
+    ne-eqb (suc a * base + b) 0 (λ z. omega (arith, suc-mul a base)) ∙ sym (and-left-no (eqb (suc a) 0) (eqb b 0) (ne-eqb (suc a) 0 (λ z. omega arith)))
+
+not-and : (a b : Bool) → not (a && b) ≡ (not a || not b)
+not-and true b = refl
+not-and false b = refl
 
 -- two good records
 module _ (n m : ℕ) (s : List ℕ) (r q : ℕ) (gr : Good n m s r) (gq : Good n m s q) where
@@ -54,11 +58,6 @@ kinds-apart a b p q =
     let one : a ≡ 1 = omega arith in
     by-equal b 0 (λ y. rw (one, y) refl) (λ y. let also : b ≡ 1 = omega arith in rw (one, also) refl))
 
-both-zero : (a b : ℕ) → eqb (a * 2 ^ 15 + b) 0 ≡ (eqb a 0 && eqb b 0)
-both-zero a b =
-    by-equal a 0 (λ e. let same : a * 2 ^ 15 + b ≡ b = omega arith in rw (same, eq-eqb a 0 e))
-    (λ e. rw (ne-eqb (a * 2 ^ 15 + b) 0 (λ z. e (omega arith)), ne-eqb a 0 e))
-
 -- they agree with their kinds where they are of one kind and match a common word
 agree-is : (n m : ℕ) (s : List ℕ) (r q : ℕ) → Good n m s r → Good n m s q → n ≤ 12
     → eqb (bitAnd (bitAnd (bitXor (kindValues s q) (kindValues s r)) (kindMask s q)) (kindMask s r)) 0 ≡ (alike s r q && common n s r q)
@@ -81,7 +80,7 @@ agree-is n m s r q gr gq few =
     ∙ and-block 15 k 1 x (mask s q) x< (omega (arith, gq .mask-low)))
     (mask-is r gr)
     ∙ and-block 15 (bitAnd k 1) 1 (bitAnd x (mask s q)) (mask s r) y< (omega (arith, gr .mask-low)))
-    ∙ both-zero (bitAnd (bitAnd k 1) 1) (bitAnd (bitAnd x (mask s q)) (mask s r))
+    ∙ both-zero (2 ^ 15) (bitAnd (bitAnd k 1) 1) (bitAnd (bitAnd x (mask s q)) (mask s r)) (omega arith)
     ∙ ap₂ _&&_ (kinds-apart (kind s q) (kind s r) (gq .kind-low) (gr .kind-low)) (sym (common-is n m s r q gr gq))
 
 -- one is hit by the other where they are of one kind, match a common word, and either opposes the other
@@ -95,7 +94,8 @@ hit-is n m s r q gr gq few h =
     ∙ and-block 8 (ones s q) (zeros s r) (zeros s q) (ones s r) (omega (arith, gq .zeros-low)) (omega (arith, gr .ones-low)) in
     let turned = ap (λ (x : ℕ). not (eqb x 0)) (and-comm (ones s q) (zeros s r)) ∙ sym (opposed-is n m s r q gr gq) in
     ap₂ _&&_ (agree-is n m s r q gr gq few)
-    (ap (λ (x : ℕ). not (eqb x 0)) apart-forces ∙ either-zero (bitAnd (ones s q) (zeros s r)) (bitAnd (zeros s q) (ones s r))
+    (ap (λ (x : ℕ). not (eqb x 0)) apart-forces ∙ ap not (both-zero 256 (bitAnd (ones s q) (zeros s r)) (bitAnd (zeros s q) (ones s r)) (omega arith))
+    ∙ not-and (eqb (bitAnd (ones s q) (zeros s r)) 0) (eqb (bitAnd (zeros s q) (ones s r)) 0)
     ∙ ap₂ _||_ turned (sym (opposed-is n m s q r gq gr)))
     ∙ and-assoc (alike s r q) (common n s r q) (opposed m s r q || opposed m s q r)
 

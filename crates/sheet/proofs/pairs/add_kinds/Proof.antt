@@ -1,7 +1,6 @@
 -- `sheet::pairs::add_kinds` meets its contract.
 -- Assumes nothing.
-use mathlib.Core.Path.{_≡_, sym, _∙_, ap}
-use mathlib.Core.List.{List}
+use mathlib.Core.Path.{_≡_, sym, ap}
 use Prim.Native.Nat.{ℕ, _*_, _/_, _%_, _≤_, _-_}
 use native.Mathlib.Omega.{arith}
 use borrow.Author.Needs.{needs}
@@ -9,15 +8,10 @@ use lib.Bits.{bitOr}
 use lib.ListN.{length, getD}
 use denote.Ref.{now}
 use Rattle.laws.specs.Lists.{puts}
-use Rattle.laws.proofs.Puts.{puts-none, puts-next, getD-unput}
+use Rattle.laws.proofs.Puts.{puts-none, puts-next, getD-next}
 use Rattle.sheet_spec.specs.Records.{kind}
 use Rattle.sheet.proofs.pairs.add_kinds.Statement.{statement}
 use Rattle.sheet.proofs.pairs.add_kinds.Tie as tie
-
--- a list with g put over its first elements, one element further
-over-next : (g : ℕ → ℕ) (old l : List ℕ) (r : ℕ) → l ≡ puts r (λ k. bitOr (getD old k 0) (g k)) old → bitOr (getD l r 0) (g r) ≡ bitOr (getD old r 0) (g r)
-over-next g old l r e =
-    ap (λ (v : ℕ). bitOr v (g r)) (ap (λ (s : List ℕ). getD s r 0) e ∙ getD-unput (λ k. bitOr (getD old k 0) (g k)) r old 0 r (omega arith))
 
 abbrev Inv-loop : tie.InvT-loop
 Inv-loop sheet masks₀ values₀ count r₀ masks values r =
@@ -83,10 +77,12 @@ loop-again : tie.Need-loop-again Inv-loop μ-loop
 loop-again c =
     let l = c .before .before .before .before .loop in
     let a = c .before .before .before .before .before .args in
-    let f : ℕ → ℕ = λ k. kind (now (a .sheet)) k % 2 * 32768 in (
+    let f : ℕ → ℕ = λ k. bitOr (getD (now (a .masks)) k 0) 32768 in
+    let g : ℕ → ℕ = λ k. bitOr (getD (now (a .values)) k 0) (kind (now (a .sheet)) k % 2 * 32768) in (
       omega arith,
-      puts-next (λ k. bitOr (getD (now (a .masks)) k 0) 32768) (l .r) (now (a .masks)) (l .masks) _ (l .inv .1) (over-next (λ k. 32768) (now (a .masks)) (l .masks) (l .r) (l .inv .1)),
-      puts-next (λ k. bitOr (getD (now (a .values)) k 0) (f k)) (l .r) (now (a .values)) (l .values) _ (l .inv .2) (over-next f (now (a .values)) (l .values) (l .r) (l .inv .2)),
+      puts-next f (l .r) (now (a .masks)) (l .masks) _ (l .inv .1) (ap (λ (v : ℕ). bitOr v 32768) (getD-next f (l .r) (now (a .masks)) (l .masks) 0 (l .inv .1))),
+      puts-next g (l .r) (now (a .values)) (l .values) _ (l .inv .2)
+          (ap (λ (v : ℕ). bitOr v (kind (now (a .sheet)) (l .r) % 2 * 32768)) (getD-next g (l .r) (now (a .values)) (l .values) 0 (l .inv .2))),
     )
 
 returns : tie.Need-returns Inv-loop μ-loop

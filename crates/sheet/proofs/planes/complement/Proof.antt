@@ -1,14 +1,13 @@
 -- `sheet::planes::complement` meets its contract.
 -- Assumes nothing.
-use mathlib.Core.Path.{_≡_, sym, _∙_, ap}
-use mathlib.Core.List.{List}
+use mathlib.Core.Path.{_≡_, sym, ap}
 use Prim.Native.Nat.{ℕ, _≤_, _-_}
 use native.Mathlib.Omega.{arith}
 use borrow.Author.Needs.{needs}
 use lib.Bits.{bitXor}
 use lib.ListN.{getD}
 use Rattle.laws.specs.Lists.{puts}
-use Rattle.laws.proofs.Puts.{puts-none, puts-next, getD-unput}
+use Rattle.laws.proofs.Puts.{puts-none, puts-next, getD-next}
 use Rattle.sheet.specs.Planes.{complemented}
 use Rattle.sheet.proofs.planes.complement.Statement.{statement}
 use Rattle.sheet.proofs.planes.complement.Tie as tie
@@ -39,8 +38,7 @@ loop-again c =
     let l = c .before .before .loop in
     let p = c .before .before .before .args .plane .now in
     let f : ℕ → ℕ = λ k. bitXor (getD p k 0) 255 in
-    let old : getD (l .plane) (l .x) 0 ≡ getD p (l .x) 0 = ap (λ (s : List ℕ). getD s (l .x) 0) (l .inv .1) ∙ getD-unput f (l .x) p 0 (l .x) (omega arith) in
-    (omega arith, puts-next f (l .x) p (l .plane) _ (l .inv .1) (ap (λ (v : ℕ). bitXor v 255) old))
+    (omega arith, puts-next f (l .x) p (l .plane) _ (l .inv .1) (ap (λ (v : ℕ). bitXor v 255) (getD-next f (l .x) p (l .plane) 0 (l .inv .1))))
 
 returns : tie.Need-returns Inv-loop μ-loop
 unfolding complemented

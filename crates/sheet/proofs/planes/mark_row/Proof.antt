@@ -1,14 +1,13 @@
 -- `sheet::planes::mark_row` meets its contract.
 -- Assumes nothing.
 use mathlib.Core.Path.{_≡_, sym, _∙_, ap, ap₂}
-use mathlib.Core.List.{List}
 use Prim.Native.Nat.{ℕ, _≤_, _-_}
 use native.Mathlib.Omega.{arith}
 use borrow.Author.Needs.{needs}
 use lib.Bits.{bitOr}
 use lib.ListN.{getD}
 use Rattle.laws.specs.Lists.{puts}
-use Rattle.laws.proofs.Puts.{puts-none, puts-next, getD-unput}
+use Rattle.laws.proofs.Puts.{puts-none, puts-next, getD-next}
 use Rattle.sheet.specs.Planes.{added, CountsUp}
 use Rattle.sheet.proofs.planes.PlaceBlocks.{marked, marked-none}
 use Rattle.sheet.proofs.planes.mark_row.Statement.{statement}
@@ -58,7 +57,7 @@ loop-again c =
     let up : CountsUp (a .low .now) = c .before .before .before .before .before .before .pre in
     let g : ℕ → ℕ = marked (a .row .now) (a .k) (a .v) (a .f) in
     let old : getD (l .row) (l .i) 0 ≡ getD (a .row .now) (l .i) 0 =
-    ap (λ (s : List ℕ). getD s (l .i) 0) (l .inv .1) ∙ getD-unput g (l .i) (a .row .now) 0 (l .i) (omega arith) in (
+    getD-next g (l .i) (a .row .now) (l .row) 0 (l .inv .1) in (
       omega arith,
       puts-next g (l .i) (a .row .now) (l .row) _ (l .inv .1) (ap₂ bitOr old (c .added-at .ensures ∙ ap (added (a .k) (a .v) (a .f)) (up (l .i) (omega arith)))),
     )

@@ -1,14 +1,13 @@
 -- `sheet::planes::move_bit` meets its contract.
 -- Assumes nothing.
-use mathlib.Core.Path.{sym, _≡_, _∙_, ap, ap₂}
-use mathlib.Core.List.{List}
+use mathlib.Core.Path.{sym, _≡_, ap₂}
 use Prim.Native.Nat.{ℕ, _≤_, _-_, _*_, _^_}
 use native.Mathlib.Omega.{arith}
 use borrow.Author.Needs.{needs}
 use lib.Bits.{bitOr}
 use lib.ListN.{getD}
 use lib.Pow.{shl-exact}
-use Rattle.laws.proofs.Puts.{puts-none, puts-next, getD-unput}
+use Rattle.laws.proofs.Puts.{puts-none, puts-next, getD-next}
 use Rattle.laws.specs.Lists.{puts}
 use Rattle.laws.specs.Bits.{bit}
 use Rattle.laws.proofs.Bits.{bit-lt}
@@ -66,7 +65,7 @@ loop-again c =
     let a = c .before .before .before .before .args in
     let g : ℕ → ℕ = λ r. bitOr (getD (a .numbers .now) r 0) (bit (getD (a .words .now) r 0) (a .from) * 2 ^ a .k) in
     let old : getD (l .numbers) (l .r) 0 ≡ getD (a .numbers .now) (l .r) 0 =
-    ap (λ (s : List ℕ). getD s (l .r) 0) (l .inv .1) ∙ getD-unput g (l .r) (a .numbers .now) 0 (l .r) (omega arith) in (
+    getD-next g (l .r) (a .numbers .now) (l .numbers) 0 (l .inv .1) in (
       omega arith,
       puts-next g (l .r) (a .numbers .now) (l .numbers) _ (l .inv .1)
           (ap₂ bitOr old (shl-exact 1 (a .k) 16 (bit-lt (getD (a .words .now) (l .r) 0) (a .from)) (omega arith))),
