@@ -1,50 +1,17 @@
 //! Refusal 6 by dependence (document 02, §1): small written jobs, each with both compilers.
 
+mod written;
+
 use second::cases;
-use second::job::{Answer, Job, Lent, Node};
-use second::{fast, plain};
+use second::job::Job;
+use written::refusal;
 
-/// The refusal, 0 for none, by both compilers; a refusal changes nothing lent.
-fn refusal(job: &Job) -> u8 {
-    let compilers: [fn(&Job, &mut Lent) -> Answer; 2] = [plain::compile, fast::compile];
-    let [one, other] = compilers.map(|compile| {
-        let before = Lent {
-            nodes: vec![Node::default(); 10_240],
-            records: vec![0x5A; 80],
-            rows: vec![0xA5; 32_768],
-        };
-        let mut after = before.clone();
-        match compile(job, &mut after) {
-            Answer::Accepted(_) => 0,
-            Answer::Refused(number) => {
-                assert!(after == before, "a refusal changed lent memory: {job:?}");
-                number
-            }
-        }
-    });
-    assert_eq!(one, other, "{job:?}");
-    one
-}
-
-/// A record: tested inputs, their values, outputs forced to 0, outputs forced to 1.
+/// An ordinary record: tested inputs, their values, outputs forced to 0, outputs forced to 1.
 type Line = (u16, u16, u8, u8);
 
-/// A job with cells large enough for any.
 fn written(n: u64, m: u64, order: &[u8], lines: &[Line]) -> Job {
-    let mut sheet = Vec::new();
-    for &(mask, values, zeros, ones) in lines {
-        sheet.extend(mask.to_le_bytes());
-        sheet.extend(values.to_le_bytes());
-        sheet.extend([zeros, ones, 0, 0]);
-    }
-    Job {
-        inputs: n,
-        outputs: m,
-        cell_inputs: 12,
-        cell_outputs: 8,
-        order: order.to_vec(),
-        sheet,
-    }
+    let ordinary = lines.iter().map(|&(k, v, z, y)| (k, v, z, y, 0));
+    written::written(n, m, order, &ordinary.collect::<Vec<_>>())
 }
 
 /// One input, y1 above it, for x1 = 0 and x1 = 1 a value of y1 (2 for d).
