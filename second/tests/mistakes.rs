@@ -198,3 +198,37 @@ fn a_clash_that_a_stop_record_covers() {
         assert_eq!(answer, Answer::Refused(5));
     }
 }
+
+#[test]
+fn the_last_matching_record_alone_counts() {
+    // For every word one record makes y1 1, another y2.
+    let mut job = Job {
+        inputs: 1,
+        outputs: 2,
+        cell_inputs: 2,
+        cell_outputs: 2,
+        order: vec![0, 128, 129],
+        sheet: vec![0, 0, 0, 0, 0, 1, 0, 0, 0, 0, 0, 0, 0, 2, 0, 0],
+    };
+    for wrong_rows in [[1, 1], [2, 2]] {
+        let (_, _, rows) = accepted(&job, Mistake::None);
+        assert_eq!(rows, [3, 3]);
+        let (_, _, rows) = accepted(&job, Mistake::LastMatching);
+        assert_eq!(rows, wrong_rows);
+        job.sheet.rotate_left(8);
+    }
+}
+
+#[test]
+fn a_clash_of_neighbours_alone() {
+    // Case G's two records with one between them that names nothing, and then side by side.
+    let mut job = cases::g();
+    let nothing = [1, 0, 1, 0, 0, 0, 0, 0];
+    job.sheet.splice(8..8, nothing);
+    for beside in [false, true] {
+        assert_eq!(with(&job, Mistake::None).0, Answer::Refused(5));
+        let (answer, ..) = with(&job, Mistake::NextRecordOnly);
+        assert_eq!(answer == Answer::Refused(5), beside);
+        job.sheet.rotate_left(8);
+    }
+}

@@ -38,6 +38,10 @@ pub enum Mistake {
     ClashBetweenKinds,
     /// No 5 where a stop record names the output for the words at which two ordinary ones clash.
     CoveredClash,
+    /// Of the records of a kind that match a word the last in the sheet alone counts.
+    LastMatching,
+    /// 5 between a record and the next one in the sheet alone.
+    NextRecordOnly,
 }
 
 /// All that an accepted job makes, before it is written into lent memory.

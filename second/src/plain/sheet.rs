@@ -124,18 +124,23 @@ fn forced(records: &[Record], kinds: &[u8], word: u16) -> (u8, u8) {
 /// record covers both".
 fn contradictory(records: &[Record], n: usize, mistake: Mistake) -> bool {
     (0..1u16 << n).any(|word| {
-        let both_ways = |kinds: &[u8]| {
+        let both_ways = |records: &[Record], kinds: &[u8]| {
             let (zeros, ones) = forced(records, kinds, word);
             zeros & ones
         };
-        let (ordinary, stop) = (both_ways(&[ORDINARY]), both_ways(&[STOP]));
+        let of_one_kind =
+            |records: &[Record]| both_ways(records, &[ORDINARY]) | both_ways(records, &[STOP]);
         let clash = match mistake {
-            Mistake::ClashBetweenKinds => both_ways(&[ORDINARY, STOP]),
+            Mistake::ClashBetweenKinds => both_ways(records, &[ORDINARY, STOP]),
             Mistake::CoveredClash => {
                 let (zeros, ones) = forced(records, &[STOP], word);
-                ordinary & !(zeros | ones) | stop
+                both_ways(records, &[ORDINARY]) & !(zeros | ones) | both_ways(records, &[STOP])
             }
-            _ => ordinary | stop,
+            Mistake::NextRecordOnly => {
+                let neighbours = records.windows(2);
+                neighbours.fold(0, |outputs, pair| outputs | of_one_kind(pair))
+            }
+            _ => of_one_kind(records),
         };
         clash != 0
     })
@@ -149,8 +154,13 @@ fn values(records: &[Record], output: usize, n: usize, mistake: Mistake) -> Vec<
         let names = |r: &&Record| r.matches(word) && r.outputs() >> output & 1 == 1;
         // Those of one kind agree (refusal 5).
         let first = |kind: u8| records.iter().filter(names).find(|r| r.kind == kind);
+        let last = |kind: u8| {
+            let mut of_kind = records.iter().filter(|r| r.kind == kind);
+            of_kind.rfind(|r| r.matches(word)).filter(names)
+        };
         let deciding = match mistake {
             Mistake::LaterDecides => records.iter().rfind(names),
+            Mistake::LastMatching => last(STOP).or_else(|| last(ORDINARY)),
             _ => first(STOP).or_else(|| first(ORDINARY)),
         };
         deciding.map_or(FREE, |r| r.ones >> output & 1)
