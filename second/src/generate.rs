@@ -1,5 +1,6 @@
-//! The seeded generator: jobs by family, lent memories, blocks and lists of bank calls.
+//! The seeded generator: jobs by family, sheets in other arrangements, lent memories, blocks and lists of bank calls.
 
+mod arranged;
 mod blocks;
 mod calls;
 mod damaged;
@@ -13,6 +14,7 @@ mod stop;
 mod stop_faults;
 mod wide;
 
+pub use arranged::arranged;
 pub use blocks::{block, compiled, compiled_with_totals, damage, StoredBlock};
 pub use calls::calls;
 pub use damaged::Fault;

@@ -3,13 +3,18 @@
 use second::job::{Answer, Job, Lent, Node};
 use second::{fast, plain};
 
-/// The answer and the memory after, the same by both compilers; a refusal changes nothing lent.
-pub fn made(job: &Job) -> (Answer, Lent) {
-    let before = Lent {
+/// Memory enough for every job.
+pub fn enough() -> Lent {
+    Lent {
         nodes: vec![Node::default(); 10_240],
         records: vec![0x5A; 80],
         rows: vec![0xA5; 32_768],
-    };
+    }
+}
+
+/// The answer and the memory after, the same by both compilers; a refusal changes nothing lent.
+pub fn made(job: &Job) -> (Answer, Lent) {
+    let before = enough();
     let compilers: [fn(&Job, &mut Lent) -> Answer; 2] = [plain::compile, fast::compile];
     let [one, other] = compilers.map(|compile| {
         let mut after = before.clone();
