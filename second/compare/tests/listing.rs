@@ -1,6 +1,6 @@
 //! The proved listing program against the second one: what both print on the same standard input.
 
-use second::generate::{job, Family};
+use second::generate::{arranged, job, Family};
 use second::job::Job;
 use second::run::output_of;
 use std::collections::BTreeMap;
@@ -57,6 +57,21 @@ fn jobs() {
             family.name(),
             (0..jobs).map(|i| bytes(&job(family, SEED, i))),
         );
+    }
+}
+
+/// Document 02, §4: the proved program prints the same text for a sheet in five other arrangements of its records.
+#[test]
+fn arrangements() {
+    let proved = program("target/bin/cascade_list");
+    for family in Family::ALL {
+        for index in 0..8 {
+            let job = job(family, SEED, index);
+            let text = output_of(&proved, &[], &bytes(&job));
+            for moved in arranged(&job, SEED, index) {
+                assert_eq!(output_of(&proved, &[], &bytes(&moved)), text, "{job:?}");
+            }
+        }
     }
 }
 
