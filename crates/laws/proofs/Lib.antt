@@ -9,6 +9,7 @@ pub mod Lists
 pub mod Marks
 pub mod Masks
 pub mod Parts
+pub mod Permutations
 pub mod Picked
 pub mod PickedBits
 pub mod Powers
