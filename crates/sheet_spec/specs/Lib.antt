@@ -7,5 +7,6 @@ pub mod Refusals
 pub mod Accepted
 pub mod Table
 pub mod Characteristic
+pub mod SameRecords
 pub mod Example
 pub mod Opened
