@@ -1,8 +1,8 @@
--- Computed examples: the table of T, which is table 1 of document 000, and its words.
+-- Computed examples: the table of T, which is table 1 of document 000, and its words; stop records; the records of a sheet in another order.
 -- Assumes nothing.
 use mathlib.Core.Path.{_≡_, refl}
 use mathlib.Core.Bool.{true, false}
-use mathlib.Core.List.{List, [], _∷_, _++_}
+use mathlib.Core.List.{List, [], _∷_, _++_, Perm·swap}
 use Prim.Native.Nat.{ℕ}
 use Rattle.sheet_spec.specs.Opened.{sheetOpened}
 use Rattle.sheet_spec.specs.Job.{inputList, wordOf, numberOf}
@@ -10,7 +10,9 @@ use Rattle.sheet_spec.specs.Values.{value, depends}
 use Rattle.sheet_spec.specs.Refusals.{sheetRefusal}
 use Rattle.sheet_spec.specs.Table.{table}
 use Rattle.sheet_spec.specs.Characteristic.{chi}
+use Rattle.sheet_spec.specs.SameRecords.{timesIn, SameRecords}
 use Rattle.sheet_spec.specs.Example.{line, stopLine, T, fullT, jobT, jobAbove, jobF, clashing, jobS, washing, unstopped}
+use Rattle.sheet_spec.proofs.Permuted.{permuted-same}
 
 -- the lines of y2 and of y1, as the truth table prints them down its rows
 abbrev y2 : List ℕ
@@ -60,6 +62,15 @@ pub stop-first : (table jobS (stopLine 1 1 1 0 ++ line 2 2 0 1) ≡ 2 ∷ 1 ∷ 
 unfolding sheetOpened
 stop-first = (refl, refl)
 
+-- nor does that of any record: each that matches counts, and two clash also with a third between them
+pub each-counts : (value (line 0 0 1 0 ++ line 0 0 0 2) 0 0 ≡ 0) × (value (line 0 0 0 2 ++ line 0 0 1 0) 0 0 ≡ 0)
+unfolding sheetOpened
+each-counts = (refl, refl)
+
+pub clash-apart : sheetRefusal jobF (line 0 0 1 0 ++ line 1 1 0 0 ++ line 0 0 0 1) ≡ 5
+unfolding sheetOpened
+clash-apart = refl
+
 -- two ordinary records clash where a stop record decides; two stop records clash
 pub still-clashing : (sheetRefusal jobF (clashing ++ stopLine 0 0 1 0) ≡ 5) × (sheetRefusal jobF (stopLine 0 0 1 0 ++ stopLine 1 1 0 1) ≡ 5)
 unfolding sheetOpened
@@ -94,3 +105,14 @@ number-0011 = refl
 pub chi-0011 : (chi 2 T 12 0 ≡ true) × (chi 2 T 12 1 ≡ false)
 unfolding sheetOpened
 chi-0011 = (refl, refl)
+
+-- how often a record stands in a sheet; one that differs in its last byte alone is another
+pub times-in : (timesIn (line 1 1 1 0 ++ line 2 2 0 1 ++ line 1 1 1 0) (line 1 1 1 0) ≡ 2)
+    × (timesIn (line 1 1 1 0) (1 ∷ 0 ∷ 1 ∷ 0 ∷ 1 ∷ 0 ∷ 0 ∷ 1 ∷ []) ≡ 0)
+unfolding sheetOpened
+times-in = (refl, refl)
+
+-- the wash line and the stop line in either order are the same records
+pub washing-turned : SameRecords washing (stopLine 1 1 1 0 ++ line 2 2 0 1)
+unfolding sheetOpened
+washing-turned = permuted-same washing (stopLine 1 1 1 0 ++ line 2 2 0 1) (refl, refl) (Perm·swap (stopLine 1 1 1 0) (line 2 2 0 1) [])

@@ -1,4 +1,5 @@
 -- Laws of the definitions. The crates of the layer may cite those that are `pub`, the layers above those of Promises alone.
+pub mod Arrangements
 pub mod Chi
 pub mod Clashes
 pub mod Dependence
@@ -10,6 +11,7 @@ pub mod OrderHeights
 pub mod OrderRule
 pub mod Orders
 pub mod OrdinarySheets
+pub mod Permuted
 pub mod Promises
 pub mod RecordFields
 pub mod StopRecords

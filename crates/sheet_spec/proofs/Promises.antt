@@ -20,5 +20,7 @@ pub use Rattle.sheet_spec.proofs.StopRecords.{value-low, stop-decides, 
 -- the least refusal and the table before stop records; the least refusal of document 01; and when they are those of today
 pub use Rattle.sheet_spec.proofs.OrdinarySheets.{AllOrdinary, refusalBefore, tableBefore, refusal-kept, table-kept, Kept, kept-or-4}
 pub use Rattle.sheet_spec.proofs.NamedInputs.{namedRefusal, kept-or-4-6}
+-- sheets with the same records, each as often, in any arrangement
+pub use Rattle.sheet_spec.proofs.Arrangements.{value-same, refusal-same, table-same, fillTable-same}
 -- the characteristic function allows what the sheet allows; a forced value allows itself alone
 pub use Rattle.sheet_spec.proofs.Chi.{meets-allows, chi-allows, forced-only}
