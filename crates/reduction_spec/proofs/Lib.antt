@@ -15,6 +15,7 @@ pub mod DiagramWalks
 mod Examples
 pub mod HeightsInOrder
 pub mod LentAfter
+pub mod LineOrder
 pub mod MergeAnd
 pub mod MergeKeeps
 pub mod MergeKeepsOrderRule

@@ -34,3 +34,5 @@ pub use Rattle.reduction_spec.proofs.DescentSteps.{descend-bottom, desc
 -- what `reduce` answers, and what it leaves lent
 pub use Rattle.reduction_spec.proofs.ReductionCases.{not-refused}
 pub use Rattle.reduction_spec.proofs.LentAfter.{refusal-is, accepted, few-variables, narrow, node-count, nodes-few}
+-- and that the records' order does not matter to it
+pub use Rattle.reduction_spec.proofs.LineOrder.{reduce-same}
