@@ -8,6 +8,7 @@ pub mod Emits
 mod Examples
 pub mod GreedyCells
 mod KeptBytes
+pub mod LineOrder
 pub mod MadeCascade
 pub mod Promises
 pub mod RailCounts
