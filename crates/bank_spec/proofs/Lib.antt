@@ -13,6 +13,7 @@ pub mod FewestRails
 pub mod FormedCells
 mod LatchAsBook
 mod LatchKeeps
+pub mod LineOrder
 pub mod Promises
 pub mod Related
 mod Reworded

@@ -9,5 +9,7 @@ pub use Rattle.bank_spec.proofs.AsBook.{fresh-related, call-same}
 pub use Rattle.bank_spec.proofs.StateSizes.{Sized, call-sized}
 -- what the compiler writes is a compiled block
 pub use Rattle.bank_spec.proofs.CompiledAs.{as-compiled}
+-- and it is one for every arrangement of its sheet's records
+pub use Rattle.bank_spec.proofs.LineOrder.{compiled-same, allowed-same}
 -- demand 3
 pub use Rattle.bank_spec.proofs.Demand3.{demand3}
