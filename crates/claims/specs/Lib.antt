@@ -1,3 +1,4 @@
--- Lists of exported calls, and demand 3 of them.
+-- Lists of exported calls, demand 3 of them, and the functions that take a sheet.
 pub mod ExportedCalls
+pub mod LineOrder
 pub mod PanelDemand3
