@@ -23,7 +23,8 @@ extern "C" {
  * order of n + m bytes, top first: input i is i, output i is 128 + i. The sheet is records of 8 bytes: 0 and 1 the mask
  * of tested inputs, 2 and 3 their values, low byte first; 4 the outputs forced to 0, 5 those forced to 1; 6 is 1 for a stop
  * record and 0 for an ordinary one; 7 is 0. Where a stop record and an ordinary one both name an output for a word, the
- * stop record decides; what no record names is free. */
+ * stop record decides; what no record names is free. The order of the records does not matter: the same ones, each as often,
+ * give the same answer and the same bytes in any arrangement. */
 
 /* Memory that is enough for every job. */
 #define CASCADE_NODE_WORDS 30720 /* 10,240 nodes: height, child for 0, child for 1 */
