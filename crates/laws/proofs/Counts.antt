@@ -40,6 +40,11 @@ module _ (f : ℕ → Bool) where
       by-test (f n) (λ p. let e′ : count n f + 1 ≤ 0 = rw p at e in absurd (omega arith))
       (λ p. let e′ : count n f ≤ 0 = rw p at e in last-or-below i n h (λ q. ap f q ∙ p) (λ l. count-none n e′ i l))
 
+-- a test that always holds
+pub count-always : (n : ℕ) → count n (λ i. true) ≡ n
+count-always zero = refl
+count-always (suc n) = ap (λ (k : ℕ). k + 1) (count-always n) ∙ add-one n
+
 module _ (f g : ℕ → Bool) where
   pub count-ext : (n : ℕ) → ((i : ℕ) → i < n → f i ≡ g i) → count n f ≡ count n g
   count-ext zero h = refl

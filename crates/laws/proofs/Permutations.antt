@@ -7,10 +7,10 @@ use mathlib.Core.Nat as M
 use Prim.Native.Nat.{ℕ, zero, suc, _+_}
 use native.Mathlib.Bridge.{fromℕ, toℕ, toℕ-fromℕ, toℕ-+, from-hom₂}
 use native.Mathlib.Nat.{add-zero}
-use native.Mathlib.Numerals.{add-one}
 use Rattle.laws.specs.Tests.{count}
 use Rattle.laws.specs.Lists.{tab}
 use Rattle.laws.proofs.Cases.{by-test, cond-yes, cond-no}
+use Rattle.laws.proofs.Counts.{count-always}
 
 -- the kit's count is ours, where its test passes as ours does
 module _ {A : Type 0} {p : A → Type 0} (d : (a : A) → Dec (p a)) (f : ℕ → A) (test : ℕ → Bool)
@@ -27,10 +27,6 @@ module _ {A : Type 0} {p : A → Type 0} (d : (a : A) → Dec (p a)) (f : ℕ �
 
 fromℕ-injective : (a b : M.ℕ) → fromℕ a ≡ fromℕ b → a ≡ b
 fromℕ-injective a b e = sym (toℕ-fromℕ a) ∙ ap toℕ e ∙ toℕ-fromℕ b
-
-count-always : (n : ℕ) → count n (λ i. true) ≡ n
-count-always zero = refl
-count-always (suc n) = ap (λ (k : ℕ). k + 1) (count-always n) ∙ add-one n
 
 module _ {A : Type 0} (f g : ℕ → A) (n m : ℕ) where
   -- a permutation keeps how many elements pass a test, and the number of elements

@@ -8,7 +8,6 @@ use native.Mathlib.Decide.{ℕ-discrete}
 use native.Mathlib.Nat.{div-add-mod'}
 use lib.Dec.{eqb}
 use lib.ListN.{length, getD}
-use lib.Seq.{ext-getD}
 use borrow.Author.Tests.{eqb-true, eq-eqb}
 use Rattle.laws.specs.Tests.{every, count}
 use Rattle.laws.specs.Lists.{tab}
@@ -16,7 +15,7 @@ use Rattle.laws.proofs.Cases.{and-split, and-join}
 use Rattle.laws.proofs.Tests.{every-of, every-at, every-ext}
 use Rattle.laws.proofs.Counts.{count-ext}
 use Rattle.laws.proofs.Masks.{count-empty}
-use Rattle.laws.proofs.Lists.{length-tab, getD-tab}
+use Rattle.laws.proofs.Lists.{length-tab, getD-tab, by-elements}
 use Rattle.laws.proofs.Permutations.{perm-count, perm-length, count-perm}
 use Rattle.sheet_spec.specs.Records.{recordCount, byte}
 use Rattle.sheet_spec.specs.SameRecords.{isRecord, timesIn, SameRecords, recordAt, recordsOf}
@@ -37,10 +36,7 @@ module _ (s b : List ℕ) (r : ℕ) where
 
   list-is : isList ≡ true → recordAt s r ≡ b
   unfolding isList recordAt
-  list-is e =
-      let (l, is) = and-split (eqb (length b) 8) (isRecord s b r) e in
-      ext-getD 0 (tab 8 (byte s r)) b (length-tab (byte s r) 8 ∙ sym (eqb-true (length b) 8 l))
-      (λ k k<. let k8 : k < 8 = rw length-tab at k< in getD-tab (byte s r) 0 8 k k8 ∙ record-bytes is k k8)
+  list-is e = let (l, is) = and-split (eqb (length b) 8) (isRecord s b r) e in by-elements b 8 (byte s r) (eqb-true (length b) 8 l) (record-bytes is)
 
   is-list : recordAt s r ≡ b → isList ≡ true
   unfolding isList recordAt

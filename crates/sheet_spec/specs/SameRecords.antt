@@ -23,7 +23,7 @@ pub record SameRecords (s z : List ℕ) : Type 0 where
   pub whole : (length s % 8 ≡ 0) × (length z % 8 ≡ 0)
   pub asOften : (b : List ℕ) → timesIn s b ≡ timesIn z b
 
--- the eight bytes of record r; the list of the sheet's records, of which the other is then a permutation
+-- the eight bytes of record r; the list of the records. The lists of two such sheets are permutations of each other
 unfoldable pub recordAt : List ℕ → ℕ → List ℕ
 recordAt s r = tab 8 (byte s r)
 
