@@ -1,7 +1,7 @@
 -- Document 02, §4: any two sheets with the same records, each as often, in any arrangement, give the same answer for one job and equal lent memory,
 -- in every function that takes a sheet.
--- Of sheets that are not whole records nothing is left to prove: 3 goes by the length alone (`refuse3`), so two of one length that is no multiple of 8
--- are both refused with 3, or with the 1 or 2 of their job, and nothing lent changes.
+-- Sheets that are not whole records are not among these: 3 goes by the length alone (`refuse3`), so two of one length that is no multiple of 8 are both
+-- refused with 3, or with the 1 or 2 of their job, and nothing lent changes (`unread-same` of cutting_spec).
 -- Assumes nothing.
 use mathlib.Core.Path.{_≡_, refl, ap}
 use mathlib.Core.List.{List}

@@ -10,5 +10,5 @@ pub use Rattle.cutting_spec.proofs.StoredCuts.{length-stored, stored-cu
 -- the cascade made: its cells, and what a run over it gives
 pub use Rattle.cutting_spec.proofs.MadeCascade.{cells-count, made-count, made-cuts, made-emits, made-all}
 pub use Rattle.cutting_spec.proofs.Emits.{Emitted, emitted-allowed, compiled-unset}
--- sheets with the same records, each as often, in any arrangement: the answer and the three memories
-pub use Rattle.cutting_spec.proofs.LineOrder.{compile-same}
+-- the answer and the three memories of sheets with the same records, each as often, in any arrangement; of sheets that 3 refuses
+pub use Rattle.cutting_spec.proofs.LineOrder.{compile-same, unread-same}

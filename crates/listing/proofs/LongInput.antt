@@ -1,47 +1,30 @@
 -- Input of more than 4,096 bytes: the first 4,096 decide what the compiler gives.
 -- Assumes nothing.
-use mathlib.Core.Path.{_≡_, sym, _∙_, ap, ap₂}
-use mathlib.Core.Bool.{true, cond, not, _||_, or-true}
+use mathlib.Core.Path.{_≡_, refl, sym, _∙_, ap, ap₂}
+use mathlib.Core.Bool.{true, not, _||_, or-true}
 use mathlib.Core.List.{List}
 use Prim.Native.Nat.{ℕ, _+_, _%_, _<_, _≤_}
 use native.Mathlib.Omega.{arith}
-use borrow.Author.Tests.{ne-eqb, lt-ltb}
+use borrow.Author.Tests.{lt-ltb}
 use lib.Dec.{eqb}
 use lib.ListN.{length, getD, take, drop, take-append-drop, length-drop}
 use lib.Seq.{length-take-le, take-all, take-append-le, drop-append-le, getD-take}
-use Rattle.laws.proofs.Cases.{by-less, cond-yes, cond-no, cond-both}
+use Rattle.laws.proofs.Cases.{by-less}
 use Rattle.sheet_spec.specs.Job.{Job}
-use Rattle.sheet_spec.specs.Refusals.{refuse1, refuse2, refuse3, sheetRefusal}
-use Rattle.cutting_spec.specs.Compile.{Compiled, refused, refusal as refusalAs, compileAs, compile}
-use Rattle.cutting.specs.Outcome.{answered}
-use Rattle.node_table.specs.Nodes.{emptyTable, WholeOutcome, wholeOutcomeOf, wholeOutcome}
+use Rattle.sheet_spec.specs.Refusals.{refuse3}
+use Rattle.cutting_spec.specs.Compile.{compile}
+use Rattle.cutting_spec.proofs.Promises.{unread-same}
+use Rattle.node_table.specs.Nodes.{emptyTable, wholeOutcome}
 use Rattle.listing.specs.Split.{number, variables, orderOf, sheetOf, jobOf}
 
--- a sheet of more than 2,048 bytes is refused, whatever it holds
-module _ (j : Job) where
-  abbrev refusal : ℕ
-  refusal = cond (refuse1 j) 1 (cond (refuse2 j) 2 3)
+-- a sheet of more than 2,048 bytes is refused with 3, or with 1 or 2, whatever it holds
+too-long : (s : List ℕ) → 2048 < length s → refuse3 s ≡ true
+unfolding refuse3
+too-long s h = ap (λ b. not (eqb (length s % 8) 0) || b) (lt-ltb 2048 (length s) h) ∙ or-true (not (eqb (length s % 8) 0))
 
-  some : refusal ≡ 0 → ⊥
-  some =
-      let Some : ℕ → Type 0 = λ n. n ≡ 0 → ⊥ in
-      cond-both Some (refuse1 j) (λ z. absurd (omega arith)) (cond-both Some (refuse2 j) (λ z. absurd (omega arith)) (λ z. absurd (omega arith)))
-
-  too-long : (s : List ℕ) → 2048 < length s → refuse3 s ≡ true
-  unfolding refuse3
-  too-long s h = ap (λ b. not (eqb (length s % 8) 0) || b) (lt-ltb 2048 (length s) h) ∙ or-true (not (eqb (length s % 8) 0))
-
-  by-sheet : (s : List ℕ) → 2048 < length s → sheetRefusal j s ≡ refusal
-  unfolding sheetRefusal
-  by-sheet s h = ap (λ (n : ℕ). cond (refuse1 j) 1 (cond (refuse2 j) 2 n)) (cond-yes (refuse3 s) 3 _ (too-long s h))
-
-  long-sheet : (records rows s : List ℕ) → 2048 < length s → wholeOutcomeOf (answered (refused refusal)) records rows ≡ wholeOutcome records rows j s
-  unfolding wholeOutcome compile compileAs refusalAs
-  long-sheet records rows s h =
-      let kept : ℕ → Compiled = refusalAs (λ xs. xs) emptyTable records rows in
-      let shown : Compiled → WholeOutcome = λ c. wholeOutcomeOf (answered (c .answer)) (c .records) (c .rows) in
-      ap (λ (n : ℕ). shown (kept n)) (sym (by-sheet s h))
-      ∙ ap shown (sym (cond-no (eqb (sheetRefusal j s) 0) _ (kept (sheetRefusal j s)) (ne-eqb (sheetRefusal j s) 0 (λ z. some (sym (by-sheet s h) ∙ z)))))
+long-sheets : (records rows : List ℕ) (j : Job) (s z : List ℕ) → 2048 < length s → 2048 < length z → wholeOutcome records rows j s ≡ wholeOutcome records rows j z
+unfolding wholeOutcome compile
+long-sheets records rows j s z h k = rw (unread-same s z (too-long s h) (too-long z k) j (λ xs. xs) emptyTable records rows) refl
 
 -- a part that ends in the first n elements is a part of them
 part-within : (a k n : ℕ) (l : List ℕ) → a + k ≤ n → n ≤ length l → take k (drop a (take n l)) ≡ take k (drop a l)
@@ -95,6 +78,5 @@ long-input records rows input bytes =
     by-less 4096 (length input)
     (λ long.
     ap (λ (j : Job). wholeOutcome records rows j (sheetOf (take 4096 input))) (job-kept input bytes long)
-    ∙ sym (long-sheet (jobOf input) records rows (sheetOf (take 4096 input)) (first-long input bytes long))
-    ∙ long-sheet (jobOf input) records rows (sheetOf input) (sheet-long input bytes long))
+    ∙ long-sheets records rows (jobOf input) (sheetOf (take 4096 input)) (sheetOf input) (first-long input bytes long) (sheet-long input bytes long))
     (λ h. ap (λ (x : List ℕ). wholeOutcome records rows (jobOf x) (sheetOf x)) (take-all 4096 input h))
