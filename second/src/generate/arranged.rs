@@ -4,9 +4,9 @@ use super::random::Random;
 use crate::job::Job;
 use std::cmp::Reverse;
 
-/// The job with the same records, each as often, in five arrangements: backwards; sorted by the outputs named and then by the inputs
-/// tested, as mills do; turned round, the stop records in front or at the end; one record moved; shuffled. Bytes past the last whole
-/// record stay at the end.
+/// The job with the same records, each as often, in five arrangements: backwards; sorted by the outputs named and then by
+/// the inputs tested, as mills do; turned round, with the stop records in front or at the end; one record moved; shuffled.
+/// Bytes past the last whole record stay at the end.
 pub fn arranged(job: &Job, seed: u64, index: u64) -> [Job; 5] {
     let random = &mut Random::new(500, seed, index);
     let (records, rest) = job.sheet.as_chunks::<8>();
