@@ -1,8 +1,10 @@
-//! The seeded generator: jobs by family, sheets in other arrangements, lent memories, blocks and lists of bank calls.
+//! The seeded generator: jobs by family, sheets in other arrangements, lent memories, blocks, cascades made by hand and lists of
+//! bank calls.
 
 mod arranged;
 mod blocks;
 mod calls;
+mod cascades;
 mod damaged;
 mod dense;
 mod dependence;
@@ -17,6 +19,7 @@ mod wide;
 pub use arranged::arranged;
 pub use blocks::{block, compiled, compiled_with_totals, damage, StoredBlock};
 pub use calls::calls;
+pub use cascades::{cascade, known_but, made, Rows, Shape};
 pub use damaged::Fault;
 pub use random::Random;
 

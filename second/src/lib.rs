@@ -6,6 +6,7 @@ pub mod cases;
 pub mod fast;
 pub mod generate;
 pub mod job;
+pub mod known;
 pub mod list;
 pub mod panel;
 pub mod plain;

@@ -136,7 +136,7 @@ pub fn cells(records: &[u8]) -> Option<Vec<Cell>> {
 }
 
 /// The cells, each with its rows, when the whole stored form is well formed.
-fn cells_with_rows<'a>(records: &[u8], rows: &'a [u8]) -> Option<Vec<(Cell, &'a [u8])>> {
+pub fn cells_with_rows<'a>(records: &[u8], rows: &'a [u8]) -> Option<Vec<(Cell, &'a [u8])>> {
     let cells = cells(records)?;
     if rows.len() != cells.iter().map(|cell| cell.rows).sum::<usize>() {
         return None;
@@ -198,35 +198,36 @@ pub fn write(cascade: &Cascade, records: &mut [u8], rows: &mut [u8]) -> Result<(
 }
 
 /// The cells of a well-formed cascade, each with the row that an input word leads to.
-pub fn walk(records: &[u8], rows: &[u8], word: u16) -> Option<Vec<(Cell, u8)>> {
-    let mut rail = 0;
-    let mut visits = Vec::new();
-    for (cell, own) in cells_with_rows(records, rows)? {
-        let row = own[cell.address(rail, word)];
-        rail = cell.next_rail(row);
-        visits.push((cell, row));
-    }
-    Some(visits)
+pub fn walk<'a>(
+    cells: &'a [(Cell, &'a [u8])],
+    word: u16,
+) -> impl Iterator<Item = (&'a Cell, u8)> + 'a {
+    cells.iter().scan(0, move |rail, (cell, own)| {
+        let row = own[cell.address(*rail, word)];
+        *rail = cell.next_rail(row);
+        Some((cell, row))
+    })
 }
 
-/// What a well-formed cascade emits for an input word, by output number; None for an output it does not have.
-pub fn emit(records: &[u8], rows: &[u8], word: u16) -> Option<[Option<bool>; 8]> {
+/// What the cells of a well-formed cascade emit for an input word, by output number; None for an output it does not have.
+pub fn emitted(cells: &[(Cell, &[u8])], word: u16) -> [Option<bool>; 8] {
     let mut emitted = [None; 8];
-    for (cell, row) in walk(records, rows, word)? {
+    for (cell, row) in walk(cells, word) {
         for (output, value) in cell.values(row) {
             emitted[output] = Some(value);
         }
     }
-    Some(emitted)
+    emitted
+}
+
+/// The same by records and rows; None where they are not well formed.
+pub fn emit(records: &[u8], rows: &[u8], word: u16) -> Option<[Option<bool>; 8]> {
+    Some(emitted(&cells_with_rows(records, rows)?, word))
 }
 
 /// The rail word below each cell of a well-formed cascade, top first; the last is 0.
 pub fn rail_words(records: &[u8], rows: &[u8], word: u16) -> Option<Vec<u16>> {
-    let visits = walk(records, rows, word)?;
-    Some(
-        visits
-            .iter()
-            .map(|(cell, row)| cell.next_rail(*row))
-            .collect(),
-    )
+    let cells = cells_with_rows(records, rows)?;
+    let below = walk(&cells, word).map(|(cell, row)| cell.next_rail(row));
+    Some(below.collect())
 }

@@ -1,8 +1,9 @@
-//! A compiler with its scratch made allocates nothing.
+//! A compiler with its scratch made allocates nothing, and neither does the evaluation by sets.
 
 use second::fast::Compiler;
-use second::generate::{job, Family};
+use second::generate::{job, made, Family};
 use second::job::{Answer, Job, Lent, Node};
+use second::known;
 use std::alloc::{GlobalAlloc, Layout, System};
 use std::cell::Cell;
 
@@ -73,5 +74,18 @@ fn compile_allocates_nothing() {
             let above = family == Family::DependentAbove;
             assert_eq!(answer == Answer::Refused(6), above, "{given:?}");
         }
+    }
+}
+
+#[test]
+fn sets_allocate_nothing() {
+    for index in 0..64 {
+        let (records, rows) = made(1, index);
+        let before = ALLOCATED.get();
+        for known in [0xFFFF, 0x5A5, 0] {
+            assert!(known::sets(&records, &rows, known, 0x333).is_ok());
+            assert_eq!(known::sets(&records[1..], &rows, known, 0x333), Err(12));
+        }
+        assert_eq!(ALLOCATED.get(), before);
     }
 }

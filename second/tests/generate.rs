@@ -4,9 +4,12 @@ mod forced;
 
 use forced::forced;
 use second::book::{well_formed, Book, Call, Said};
-use second::generate::{block, calls, damage, job, lent, Family, Fault};
+use second::generate::{
+    block, calls, cascade, damage, job, known_but, lent, made, Family, Fault, Random, Rows, Shape,
+};
 use second::job::{Answer, Job, Lent, Node};
 use second::plain;
+use second::stored;
 use std::collections::BTreeSet;
 
 /// The refusals 1 to 6 that fit a job, each judged alone where that has a meaning.
@@ -113,6 +116,7 @@ fn the_same_seed_gives_the_same() {
         assert_eq!(lent(&one, 1, 2, (9, 8, 7)), lent(&one, 1, 2, (9, 8, 7)));
     }
     assert_eq!(block(1, 2), block(1, 2));
+    assert_eq!(made(1, 2), made(1, 2));
     let given = [block(1, 2), block(1, 3)];
     assert_eq!(calls(4, 5, &given), calls(4, 5, &given));
     assert_eq!(damage(4, 5, &given[0]), damage(4, 5, &given[0]));
@@ -294,4 +298,49 @@ fn call_lists_meet_each_answer() {
     let counts = (went, idle, broken_off, crowded);
     let enough = went > 1_000 && idle > 500 && broken_off > 30 && crowded > 0;
     assert!(enough, "{counts:?}");
+}
+
+#[test]
+fn cascades_by_hand_are_as_said() {
+    let (mut most, mut least) = (0, usize::MAX);
+    let (mut no_inputs, mut no_outputs, mut eight_rails, mut not_reached) = (0, 0, 0, 0);
+    for (shape, rows) in Shape::ALL.map(|s| Rows::ALL.map(|r| (s, r))).concat() {
+        for index in 0..100 {
+            let (records, bytes) = cascade(shape, rows, 3, index);
+            assert!(stored::well_formed(&records, &bytes), "{shape:?} {rows:?}");
+            let cells = stored::cells(&records).expect("well formed");
+            let inputs = cells.iter().map(|cell| cell.inputs.len()).sum::<usize>();
+            match shape {
+                Shape::Any => assert_eq!(records, block(3, index).0),
+                Shape::ManyCells => {
+                    assert!((12..=20).contains(&cells.len()) && records.len() == 4 * cells.len())
+                }
+                Shape::OneCell => assert_eq!((cells.len(), bytes.len()), (1, 4_096)),
+                Shape::Largest => {
+                    assert_eq!(inputs, 12);
+                    most = most.max(bytes.len());
+                    least = least.min(bytes.len());
+                }
+            }
+            no_inputs += cells.iter().filter(|c| c.inputs.is_empty()).count();
+            no_outputs += cells.iter().filter(|c| c.outputs.is_empty()).count();
+            eight_rails += cells.iter().filter(|c| c.lower_rails == 8).count();
+            // The cell below the first has more rail words than the first has rows.
+            not_reached += usize::from(cells[0].rows < 1 << cells[0].lower_rails);
+        }
+    }
+    assert_eq!((least, most), (10_498, 11_521));
+    let found = [no_inputs, no_outputs, eight_rails, not_reached];
+    assert!(found.iter().all(|&count| count > 400), "{found:?}");
+}
+
+#[test]
+fn masks_have_as_many_unknown_inputs_as_said() {
+    let mut random = Random::new(1, 2, 3);
+    for unknown in 0..=12 {
+        let masks: BTreeSet<u16> = (0..100).map(|_| known_but(&mut random, unknown)).collect();
+        assert!(masks.len() > 10);
+        let count = |mask: &u16| (!mask & 0xFFF).count_ones();
+        assert!(masks.iter().all(|mask| count(mask) == unknown as u32));
+    }
 }

@@ -18,6 +18,7 @@ fn raw(job: &Job) -> Vec<u8> {
 const LIST: &str = env!("CARGO_BIN_EXE_second_list");
 const BANK: &str = env!("CARGO_BIN_EXE_second_bank");
 const JOBS: &str = env!("CARGO_BIN_EXE_second_jobs");
+const KNOWN: &str = env!("CARGO_BIN_EXE_second_known");
 
 #[test]
 fn the_listing_of_case_a() {
@@ -67,5 +68,25 @@ fn the_generator_writes_what_the_listing_reads() {
         .expect("the program starts");
     assert_eq!(list::split(&output.stdout), job(Family::Loose, 3, 4));
     let refused = Command::new(JOBS).arg("nothing").output().expect("starts");
+    assert_eq!(refused.status.code(), Some(2));
+}
+
+#[test]
+fn certain_outputs_are_counted() {
+    let text = run(KNOWN, &["4"], b"");
+    let lines: Vec<&str> = text.lines().skip(2).collect();
+    assert!(lines.len() > 40, "{text}");
+    for line in lines {
+        let cells = line.split('|').skip(3).take(4);
+        let counts: Vec<u64> = cells
+            .map(|cell| cell.split_whitespace().next().and_then(|n| n.parse().ok()))
+            .map(|count| count.expect("a number"))
+            .collect();
+        let [asked, exact, safe, alone] = counts[..] else {
+            panic!("{line}");
+        };
+        assert!(exact <= asked && safe + alone == exact, "{line}");
+    }
+    let refused = Command::new(KNOWN).arg("0").output().expect("starts");
     assert_eq!(refused.status.code(), Some(2));
 }

@@ -1,0 +1,152 @@
+//! The set of rail words that may occur, carried from cell to cell as bits. Made for speed.
+
+use super::cells::{Cells, Tested};
+use super::{Values, UNKNOWN};
+use crate::stored::Cell;
+
+/// The most rail words at a cut.
+const RAIL_WORDS: usize = 1 << Cell::MAX_OUTPUTS;
+
+/// Rail words: bit b of word w is rail word 64 w + b.
+type Set = [u64; RAIL_WORDS / 64];
+
+const EMPTY: Set = [0; RAIL_WORDS / 64];
+
+/// From so many reads on, rail words are marked by bytes: a store does not wait for the one before it, as a bit does.
+const MANY: usize = 256;
+
+/// Mistakes that can be switched on, for tests only.
+#[derive(Clone, Copy, Debug, PartialEq, Eq)]
+pub enum Mistake {
+    None,
+    /// The rail words above a cell stay in the set below it.
+    SetKept,
+    /// Only the lowest rail word of the set is followed.
+    LowestRailWord,
+    /// An output that the cascade lacks is shown as 0.
+    LackingAsZero,
+}
+
+/// The exact evaluation in one pass. Each row that may be read is read once; nothing is allocated.
+pub fn sets(records: &[u8], rows: &[u8], known: u16, word: u16) -> Values {
+    evaluate(records, rows, known, word, Mistake::None)
+}
+
+/// `sets`, with a mistake made on purpose. Used by tests only.
+pub fn sets_with(records: &[u8], rows: &[u8], known: u16, word: u16, mistake: Mistake) -> Values {
+    evaluate(records, rows, known, word, mistake)
+}
+
+#[inline(always)]
+fn evaluate(records: &[u8], rows: &[u8], known: u16, word: u16, mistake: Mistake) -> Values {
+    let mut values = match mistake {
+        Mistake::LackingAsZero => [0; 8],
+        _ => [UNKNOWN; 8],
+    };
+    let mut set = EMPTY;
+    set[0] = 1;
+    // At least as many as the set has.
+    let mut rail_words = 1;
+    let mut cells = Cells::new(records, rows, known, word)?;
+    while let Some(cell) = cells.next()? {
+        if mistake == Mistake::LowestRailWord {
+            set = lowest(&set);
+        }
+        let reads = rail_words << cell.free_count;
+        let (some, all, below) = read(&cell, &set, reads);
+        cell.decide(&mut values, some, all);
+        set = match mistake {
+            Mistake::SetKept => std::array::from_fn(|w| below[w] | set[w] & full(&cell)[w]),
+            _ => below,
+        };
+        rail_words = reads.min(1 << cell.lower_rails);
+    }
+    Ok(values)
+}
+
+/// The bits that are 1 in some row that may be read, those that are 1 in all, and the rail words below the cell. There are at most
+/// `reads` such rows.
+#[inline(always)]
+fn read(cell: &Tested, set: &Set, reads: usize) -> (u8, u8, Set) {
+    let (mut some, mut all, mut below) = (0, 255, EMPTY);
+    let run = 1 << cell.free.trailing_ones();
+    let rails = ((1 << cell.lower_rails) - 1) as u8;
+    if cell.lower_rails == 0 {
+        below[0] = 1;
+        each_run(cell, set, run, |rows| {
+            for row in rows {
+                some |= row;
+                all &= row;
+            }
+        });
+    } else if reads < MANY {
+        each_run(cell, set, 1, |rows| {
+            some |= rows[0];
+            all &= rows[0];
+            let rail = usize::from(rows[0] & rails);
+            below[rail / 64] |= 1 << (rail % 64);
+        });
+    } else {
+        let mut marks = [0; RAIL_WORDS];
+        each_run(cell, set, run, |rows| {
+            for row in rows {
+                some |= row;
+                all &= row;
+                marks[usize::from(row & rails)] = 1;
+            }
+        });
+        below = packed(&marks);
+    }
+    (some, all, below)
+}
+
+/// Hands on the rows that may be read, each once, so many at a time. These stand one after the other: 1, or a power of two by which
+/// the unknown inputs lowest in the address count.
+#[inline(always)]
+fn each_run(cell: &Tested, set: &Set, run: usize, mut take: impl FnMut(&[u8])) {
+    let free = cell.free & !(run - 1);
+    for (place, bits) in set.iter().enumerate() {
+        let mut bits = *bits;
+        while bits != 0 {
+            let rail = 64 * place + bits.trailing_zeros() as usize;
+            bits &= bits - 1;
+            let first = rail << cell.input_count | cell.sure;
+            let mut filling = 0;
+            loop {
+                take(&cell.rows[first | filling..][..run]);
+                filling = (filling | !free).wrapping_add(1) & free;
+                if filling == 0 {
+                    break;
+                }
+            }
+        }
+    }
+}
+
+/// The set of the rail words marked with 1; the others have 0.
+fn packed(marks: &[u8; RAIL_WORDS]) -> Set {
+    let mut set = EMPTY;
+    for (place, eight) in marks.as_chunks().0.iter().enumerate() {
+        // The product's highest byte has the eight marks in order, and no two of its terms meet.
+        let bits = u64::from_le_bytes(*eight).wrapping_mul(0x0102_0408_1020_4080) >> 56;
+        set[place / 8] |= bits << (place % 8 * 8);
+    }
+    set
+}
+
+/// All rail words that the cell's lower rails can carry.
+fn full(cell: &Tested) -> Set {
+    std::array::from_fn(|place| {
+        let words = (1usize << cell.lower_rails).saturating_sub(64 * place);
+        (1u64.checked_shl(words as u32)).map_or(!0, |end| end - 1)
+    })
+}
+
+/// The lowest rail word alone.
+fn lowest(set: &Set) -> Set {
+    let mut found = EMPTY;
+    if let Some(place) = set.iter().position(|&bits| bits != 0) {
+        found[place] = set[place] & set[place].wrapping_neg();
+    }
+    found
+}
