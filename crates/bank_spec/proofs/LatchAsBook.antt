@@ -15,10 +15,10 @@ use Rattle.laws.proofs.Cases.{cond-yes}
 use Rattle.laws.proofs.Counts.{sum-ext}
 use Rattle.laws.proofs.Lists.{length-tab, getD-tab}
 use Rattle.stored_spec.specs.StoredForm.{wellFormed, cellCount, cellAt, rowCount}
+use Rattle.stored_spec.proofs.Promises.{SameInputs, some-cell, kept-inputs}
 use Rattle.bank_spec.specs.State.{State, Bank}
 use Rattle.bank_spec.specs.Calls.{wordsKept, latched, latch}
 use Rattle.bank_spec.specs.Book.{Block, Book, noBlock, blockAt, wiped, allPlaces, bookLatch}
-use Rattle.bank_spec.proofs.FormedCells.{SameInputs, some-cell, kept-inputs}
 use Rattle.bank_spec.proofs.LatchKeeps.{latch-places}
 use Rattle.bank_spec.proofs.Related.{recordsIn, total, SameBlock, Stands, Related, Match, all-formed, records-formed}
 use Rattle.bank_spec.proofs.AdmitAsBook.{none-set}

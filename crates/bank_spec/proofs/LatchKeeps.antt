@@ -14,8 +14,9 @@ use Rattle.laws.proofs.Counts.{sum-ext}
 use Rattle.laws.proofs.Lists.{length-tab, getD-tab}
 use Rattle.sheet_spec.specs.Job.{Job}
 use Rattle.stored_spec.specs.StoredForm.{cellCount, cellAt, rowCount}
+use Rattle.stored_spec.specs.Run.{AgreeOn}
 use Rattle.bank_spec.specs.Book.{Block, Place, Book, noBlock, blockAt, cellsIn, rowsIn, wiped, allPlaces, bookLatch, readCell, bookStep}
-use Rattle.bank_spec.specs.Demand3.{CompiledBy, AgreeOn, OnlyUnread}
+use Rattle.bank_spec.specs.Demand3.{CompiledBy, OnlyUnread}
 use Rattle.bank_spec.proofs.Scans.{afterCells, readIn, stepped, scanned}
 
 -- the same records and rows, block by block

@@ -10,7 +10,6 @@ mod CompiledBlocks
 pub mod Demand3
 mod Examples
 pub mod FewestRails
-pub mod FormedCells
 mod LatchAsBook
 mod LatchKeeps
 pub mod LineOrder

@@ -14,12 +14,11 @@ use Rattle.laws.proofs.Tests.{every-of}
 use Rattle.laws.proofs.Counts.{sum-ext}
 use Rattle.laws.proofs.Lists.{tab-ext, tab-of}
 use Rattle.stored_spec.specs.StoredForm.{recordsFormed, wellFormed, cellCount, cellAt, rowCount}
-use Rattle.stored_spec.proofs.Promises.{formed-records}
+use Rattle.stored_spec.proofs.Promises.{formed-records, SameInputs}
 use Rattle.bank_spec.specs.State.{State, Scan, recordsOf, cellsBefore, rowsBefore, cellsHeld, rowsHeld, blockFormed, bankFormed, scanFormed, formed}
 use Rattle.bank_spec.specs.Calls.{After, outputsOf}
 use Rattle.bank_spec.specs.Book.{Block, Book, noBlock, blockAt, cellsIn, rowsIn, allPlaces}
 use Rattle.bank_spec.specs.CallLists.{outputsHeld, outputsInBook}
-use Rattle.bank_spec.proofs.FormedCells.{SameInputs}
 use Rattle.laws.proofs.Parts.{map-at}
 
 abbrev pub recordsIn : List Block → ℕ → List ℕ

@@ -20,13 +20,12 @@ use Rattle.laws.proofs.Counts.{sum-ext, sum-at}
 use Rattle.laws.proofs.Filled.{length-written}
 use Rattle.stored_spec.specs.StoredForm.{wellFormed, cellCount, cellAt, rowCount}
 use Rattle.stored_spec.specs.Run.{rowPlace, outputsAfter, railAfter}
-use Rattle.stored_spec.proofs.Promises.{set-length}
+use Rattle.stored_spec.proofs.Promises.{some-cell, rails-follow, row-within, same-place, set-length}
 use Rattle.bank_spec.specs.State.{State, Scan, recordsOf, rowsBefore, rowsHeld, formed}
 use Rattle.bank_spec.specs.Calls.{idle, went, After, scanAt, nextRow, outputsOf, moved, step}
 use Rattle.bank_spec.specs.Book.{Block, Place, Book, noBlock, blockAt, allPlaces, readCell, bookStep}
 use Rattle.bank_spec.proofs.Scans.{noPlace, length-places, place-of}
 use Rattle.bank_spec.proofs.LatchKeeps.{kept-places}
-use Rattle.bank_spec.proofs.FormedCells.{some-cell, rails-follow, row-within, same-place}
 use Rattle.laws.proofs.Parts.{part, part-before, part-written, part-after}
 use Rattle.bank_spec.proofs.Related.{recordsIn, total, SameBlock, Stands, Related, Match, cells-in, rows-before, rows-held, records-formed, all-formed}
 

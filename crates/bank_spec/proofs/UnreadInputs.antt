@@ -1,34 +1,19 @@
--- Inputs that no cell read so far uses do not matter to a run or to a scan in the book.
+-- Inputs that no cell read so far uses do not matter to a scan in the book.
 -- Assumes nothing.
-use mathlib.Core.Path.{_≡_, refl, sym, _∙_, ap, subst}
+use mathlib.Core.Path.{_≡_, sym, _∙_, ap, subst}
 use mathlib.Core.List.{List, [], _∷_}
-use Prim.Native.Nat.{ℕ, zero, suc, _+_, _*_, _≤_, _<_}
+use Prim.Native.Nat.{ℕ, zero, suc, _+_, _≤_, _<_}
 use native.Mathlib.Nat.{not-suc-le-zero, le-of-suc-le-suc}
 use native.Mathlib.Omega.{arith}
 use lib.ListN.{length, getD, take, length-take}
 use lib.Seq.{getD-take}
-use Rattle.laws.specs.Bits.{bit}
-use Rattle.stored_spec.specs.StoredForm.{cellAt, rowsBefore}
-use Rattle.stored_spec.specs.Run.{Running, address, rowPlace, outputsAfter, railAfter, run, ranOne}
+use Rattle.stored_spec.specs.StoredForm.{cellAt}
+use Rattle.stored_spec.specs.Run.{AgreeOn, Running, run}
+use Rattle.stored_spec.proofs.Promises.{same-run}
 use Rattle.bank_spec.specs.Book.{Block, Place, Book, blockAt, cellsIn, allPlaces, bookLatch}
-use Rattle.bank_spec.specs.Demand3.{AgreeOn, OnlyUnread}
+use Rattle.bank_spec.specs.Demand3.{OnlyUnread}
 use Rattle.bank_spec.proofs.Scans.{afterCells, cellsAbove, readIn, noPlace, stepped, length-places, place-of, cells-within}
 use Rattle.bank_spec.proofs.LatchKeeps.{scanned-at}
-
-pub same-address : (is : List ℕ) (r w v : ℕ) → AgreeOn is w v → address r is w ≡ address r is v
-unfolding address
-same-address [] r w v h = refl
-same-address (i ∷ is) r w v h =
-    ap (λ (x : ℕ). address (r * 2 + x) is w) (h .0) ∙ same-address is (r * 2 + bit v i) w v (h .1)
-
--- words that agree on the inputs of the cells read so far: the run is the same
-pub same-run : (R bytes : List ℕ) (w v k : ℕ) → ((c : ℕ) → c < k → AgreeOn (cellAt R c .ins) w v) → run R bytes w k ≡ run R bytes v k
-unfolding run ranOne rowPlace
-same-run R bytes w v zero h = refl
-same-run R bytes w v (suc k) h =
-    ap (ranOne R bytes w k) (same-run R bytes w v k (λ c l. h c (omega arith)))
-    ∙ ap (λ (x : ℕ). record { rail = railAfter (cellAt R k) x; outputs = outputsAfter (cellAt R k) (run R bytes v k .outputs) x })
-    (ap (λ (a : ℕ). getD bytes (rowsBefore R k + a) 0) (same-address (cellAt R k .ins) (run R bytes v k .rail) w v (h k (omega arith))))
 
 -- what holds of the places read holds of each
 unread-at : (bs : List Block) (ws vs : List ℕ) (ps : List Place) (i : ℕ) → OnlyUnread bs ws vs ps → i < length ps

@@ -6,7 +6,6 @@ use mathlib.Core.Bool.{true}
 use mathlib.Core.List.{List, [], _∷_, _++_}
 use Prim.Native.Nat.{ℕ, suc, _-_, _*_, _^_, _<_, _≤_, min}
 use lib.ListN.{length, getD, take, replicate}
-use Rattle.laws.specs.Bits.{bit}
 use Rattle.sheet_spec.specs.Job.{Job, t}
 use Rattle.sheet_spec.specs.Values.{value, allows}
 use Rattle.sheet_spec.specs.Table.{table}
@@ -14,6 +13,7 @@ use Rattle.reduction_spec.specs.declared.Node.{Node}
 use Rattle.reduction_spec.specs.Columns.{width}
 use Rattle.reduction_spec.specs.Merge.{reduced}
 use Rattle.stored_spec.specs.StoredForm.{cutByte, railByte, cellAt}
+use Rattle.stored_spec.specs.Run.{AgreeOn}
 use Rattle.cutting_spec.specs.Compile.{compile, Totals}
 use Rattle.cutting_spec.specs.Compile as compiler
 use Rattle.bank_spec.specs.State.{State, fresh}
@@ -65,10 +65,6 @@ reworded s vs =
     }
 
 -- the words vs are the words ws but for unread inputs: bits that no cell in the list of those read uses
-abbrev pub AgreeOn : List ℕ → ℕ → ℕ → Type 0
-AgreeOn [] w v = Unit
-AgreeOn (i ∷ is) w v = (bit w i ≡ bit v i) × AgreeOn is w v
-
 abbrev pub OnlyUnread : List Block → List ℕ → List ℕ → List Place → Type 0
 OnlyUnread bs ws vs [] = Unit
 OnlyUnread bs ws vs (p ∷ ps) =

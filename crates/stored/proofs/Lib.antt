@@ -3,3 +3,4 @@ pub mod CellPlaces
 pub mod CellReads
 pub mod Promises
 mod RecordSteps
+pub mod RowBits

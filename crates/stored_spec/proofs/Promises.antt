@@ -8,9 +8,11 @@ pub use Rattle.stored_spec.proofs.Rails.{rails-enough, rails-least, rai
 -- what well formed records and rows have
 pub use Rattle.stored_spec.proofs.StoredParts.{records-have}
 pub use Rattle.stored_spec.proofs.ReadWriteCases.{formed-records, row-bytes}
--- the cells of records, one record at a time
-pub use Rattle.stored_spec.proofs.StoredCells.{cellsTo, endedCell, longer, next-ended}
+-- what their cells have, and a row at each address
+pub use Rattle.stored_spec.proofs.FormedCells.{some-cell, rails-follow, row-within}
 -- stored cascades survive reading and writing
 pub use Rattle.stored_spec.proofs.RoundTrips.{read-write}
+-- words that agree on the inputs of the cells read make the same run, words with the same bits 0 to 11 read the same rows
+pub use Rattle.stored_spec.proofs.SameRuns.{same-run, SameInputs, same-place, kept-inputs}
 -- a run keeps the number of outputs
 pub use Rattle.stored_spec.proofs.Runs.{set-length}

@@ -2,6 +2,7 @@
 -- Outputs are a list of values, one for each output: 0 or 1 where it is set, else 2.
 -- Assumes nothing.
 use Prim.Native.Nat.{ℕ, zero, suc, _+_, _*_, _/_, _%_, _^_}
+use mathlib.Core.Path.{_≡_}
 use mathlib.Core.List.{List, [], _∷_}
 use lib.ListN.{length, getD, set, replicate}
 use Rattle.laws.specs.Bits.{bit}
@@ -12,6 +13,11 @@ use Rattle.stored_spec.specs.StoredForm.{StoredCell, cellAt, rowsBefore}
 unfoldable pub address : ℕ → List ℕ → ℕ → ℕ
 address r [] w = r
 address r (i ∷ is) w = address (r * 2 + bit w i) is w
+
+-- the words w and v have the same bits at the inputs of the list
+abbrev pub AgreeOn : List ℕ → ℕ → ℕ → Type 0
+AgreeOn [] w v = Unit
+AgreeOn (i ∷ is) w v = (bit w i ≡ bit v i) × AgreeOn is w v
 
 -- where the row that cell k reads stands among the cascade's rows
 unfoldable pub rowPlace : List ℕ → ℕ → ℕ → ℕ → ℕ

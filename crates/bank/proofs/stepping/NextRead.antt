@@ -15,6 +15,7 @@ use Rattle.laws.proofs.Cases.{and-split, and-join}
 use Rattle.laws.proofs.Counts.{sum-at}
 use Rattle.stored_spec.specs.StoredForm.{cellCount, cellAt, rowCount}
 use Rattle.stored_spec.specs.Run.{rowPlace, outputsAfter}
+use Rattle.stored_spec.proofs.Promises.{row-within}
 use Rattle.stored.specs.Reads.{hasCell, cellRails, rowRead, outputsRead}
 use Rattle.stored.specs.declared.CellRails.{CellRails}
 use Rattle.stored.proofs.Promises.{rowsTold, rails-told, rows-told, few-outs, some-rails, some-row, some-outputs}
@@ -22,7 +23,6 @@ use Rattle.bank_spec.specs.declared.Bank.{Bank}
 use Rattle.bank_spec.specs.declared.Scan.{Scan}
 use Rattle.bank_spec.specs.State.{recordsOf, rowsBefore, rowsHeld, blockFormed, bankFormed, scanFormed, formed}
 use Rattle.bank_spec.specs.Calls.{outputsOf}
-use Rattle.bank_spec.proofs.FormedCells.{row-within}
 use Rattle.bank.proofs.formed.HeldBlocks.{BankHas, bank-has, few-records, records-well, cells-at-most, part-is}
 
 -- eight elements put back in a list

@@ -8,7 +8,7 @@ use Rattle.stored_spec.specs.StoredForm.{StoredCell, recordCount}
 use Rattle.stored_spec.proofs.StoredCells.{cellsTo}
 use Rattle.stored.proofs.CellPlaces.{turn-cells}
 use Rattle.stored.proofs.CellReads.{partTo, part-none, cells-none, few-cells, whole-part, cell-there, records-there}
-use Rattle.stored.proofs.reads.RowBits.{outs-few, turn-count}
+use Rattle.stored.proofs.RowBits.{outs-few, turn-count}
 use native.Mathlib.Omega.{arith}
 use borrow.Author.Needs.{needs}
 use Rattle.stored.proofs.reads.count_outputs.Statement.{statement}

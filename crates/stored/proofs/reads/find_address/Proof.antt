@@ -12,7 +12,7 @@ use Rattle.stored_spec.specs.Run.{address}
 use Rattle.stored_spec.proofs.StoredCells.{cellsTo}
 use Rattle.stored.proofs.CellPlaces.{turn-cells}
 use Rattle.stored.proofs.CellReads.{partTo, cells-none, few-cells, whole-part}
-use Rattle.stored.proofs.reads.RowBits.{no-inputs, address-small, turn-address}
+use Rattle.stored.proofs.RowBits.{no-inputs, address-small, turn-address}
 use native.Mathlib.Omega.{arith}
 use borrow.Author.Needs.{needs}
 use Rattle.stored.proofs.reads.find_address.Statement.{statement}

@@ -14,7 +14,7 @@ use Rattle.stored_spec.specs.Run.{setOutputs, outputsAfter}
 use Rattle.stored_spec.proofs.StoredCells.{cellsTo}
 use Rattle.stored.proofs.CellPlaces.{turn-cells}
 use Rattle.stored.proofs.CellReads.{partTo, part-none, cells-none, few-cells, whole-part, few-outs, cell-there, rows-told}
-use Rattle.stored.proofs.reads.RowBits.{no-outputs-yet, length-outputs, some-left, turn-left, turn-outputs}
+use Rattle.stored.proofs.RowBits.{no-outputs-yet, length-outputs, some-left, turn-left, turn-outputs}
 use native.Mathlib.Omega.{arith}
 use borrow.Author.Needs.{needs}
 use Rattle.stored.proofs.reads.store_outputs.Statement.{statement}

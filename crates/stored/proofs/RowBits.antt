@@ -19,7 +19,7 @@ use Rattle.stored.specs.Reads.{hasCell}
 use Rattle.stored_spec.proofs.StoredCells.{cellsTo}
 use Rattle.stored.proofs.CellReads.{partTo, turn-ins, turn-outs, part-none, whole-part, cell-there}
 
-address-more : (is : List ℕ) (r i w : ℕ) → address r (is ++ (i ∷ [])) w ≡ address r is w * 2 + bit w i
+pub address-more : (is : List ℕ) (r i w : ℕ) → address r (is ++ (i ∷ [])) w ≡ address r is w * 2 + bit w i
 unfolding address
 address-more [] r i w = refl
 address-more (j ∷ is) r i w = address-more is (r * 2 + bit w j) i w

@@ -4,26 +4,26 @@
 use mathlib.Core.Path.{_≡_, refl, sym, _∙_, ap}
 use mathlib.Core.Bool.{true, not, _||_}
 use mathlib.Core.List.{List, [], _∷_, _++_}
-use Prim.Native.Nat.{ℕ, zero, suc, _+_, _-_, _*_, _/_, _%_, _^_, _<_}
-use native.Mathlib.Nat.{not-suc-le-zero, add-zero, pow-suc, mod-lt}
+use Prim.Native.Nat.{ℕ, zero, suc, _+_, _-_, _*_, _^_, _<_}
+use native.Mathlib.Nat.{not-suc-le-zero, add-zero, pow-suc}
 use native.Mathlib.Omega.{arith}
 use lib.Dec.{eqb, leb}
 use lib.ListN.{length, getD}
-use lib.Pow.{split, pow-pos}
 use borrow.Author.Tests.{leb-true, ltb-true, eq-eqb}
 use Rattle.laws.specs.Bits.{bit}
 use Rattle.laws.specs.Tests.{every, within}
-use Rattle.laws.proofs.Bits.{bit-lt, bit-low}
+use Rattle.laws.proofs.Bits.{bit-lt}
 use Rattle.laws.proofs.Cases.{by-test, cond-both, cond-yes, and-split}
 use Rattle.laws.proofs.Counts.{sum-at}
 use Rattle.sheet_spec.specs.Job.{isInput}
 use Rattle.stored_spec.specs.Cells.{rows}
 use Rattle.stored_spec.specs.StoredForm.{StoredCell, Reading, recordCount, variable, cutByte, railByte, lastByte, withVariable, withCut, reading, storedCells, cellCount, noCell, cellAt, sizeOf, rowsBefore, rowCount, recordFormed, recordsFormed}
 use Rattle.stored_spec.specs.Run.{address, rowPlace}
-use Rattle.stored_spec.proofs.Promises.{records-have, cellsTo, endedCell, next-ended, longer}
+use Rattle.stored_spec.proofs.StoredParts.{records-have}
+use Rattle.stored_spec.proofs.StoredCells.{cellsTo, endedCell, next-ended, longer}
 
 -- each number of the list is below n
-abbrev AllBelow : ℕ → List ℕ → Type 0
+abbrev pub AllBelow : ℕ → List ℕ → Type 0
 AllBelow n [] = Unit
 AllBelow n (x ∷ xs) = (x < n) × AllBelow n xs
 
@@ -59,6 +59,10 @@ follow-at u [] v k h l = absurd (not-suc-le-zero l)
 follow-at u (c ∷ []) v k h l = absurd (omega arith)
 follow-at u (c ∷ d ∷ cs) v zero h l = h .1 .0
 follow-at u (c ∷ d ∷ cs) v (suc k) h l = follow-at (c .lower) (d ∷ cs) v k (h .1) (omega arith)
+
+follow-first : (u : ℕ) (cs : List StoredCell) (v : ℕ) → Follow u cs v → 0 < length cs → getD cs 0 noCell .upper ≡ u
+follow-first u [] v h l = absurd (not-suc-le-zero l)
+follow-first u (c ∷ cs) v h l = h .0
 
 pub record Ordered (r : Reading) : Type 0 where
   pub inputs : SmallInputs (r .ended)
@@ -111,13 +115,18 @@ module _ (R : List ℕ) (formed : recordsFormed R ≡ true) where
   all-ordered : Ordered (reading R (recordCount R))
   all-ordered = read-ordered R (recordCount R) (records-have R formed .each)
 
-  inputs-small : (k : ℕ) → AllBelow 12 (cellAt R k .ins)
+  pub inputs-small : (k : ℕ) → AllBelow 12 (cellAt R k .ins)
   unfolding cellAt storedCells
   inputs-small k = small-at (reading R (recordCount R) .ended) k (all-ordered .inputs)
 
   pub rails-follow : (k : ℕ) → suc k < cellCount R → cellAt R (suc k) .upper ≡ cellAt R k .lower
   unfolding cellAt cellCount storedCells
   rails-follow k l = follow-at 0 (reading R (recordCount R) .ended) (reading R (recordCount R) .upper) k (all-ordered .follow) l
+
+  -- no rails above the first cell
+  pub first-upper : 0 < cellCount R → cellAt R 0 .upper ≡ 0
+  unfolding cellAt cellCount storedCells
+  first-upper l = follow-first 0 (reading R (recordCount R) .ended) (reading R (recordCount R) .upper) (all-ordered .follow) l
 
   -- the last record ends a cell
   pub some-cell : 0 < cellCount R
@@ -131,7 +140,7 @@ module _ (R : List ℕ) (formed : recordsFormed R ≡ true) where
       omega (arith, ap (λ (cs : List StoredCell). length cs) cells, longer (cellsTo R i) (endedCell R i))
 
 -- an address lies within the cell's rows
-address-lt : (u r : ℕ) (is : List ℕ) (w : ℕ) → r < 2 ^ u → address r is w < 2 ^ (u + length is)
+pub address-lt : (u r : ℕ) (is : List ℕ) (w : ℕ) → r < 2 ^ u → address r is w < 2 ^ (u + length is)
 unfolding address
 address-lt u r [] w h = rw add-zero h
 address-lt u r (i ∷ is) w h =
@@ -143,21 +152,3 @@ pub row-within : (R : List ℕ) (k r w : ℕ) → k < cellCount R → r < 2 ^ ce
 unfolding rowPlace rowCount rowsBefore rows sizeOf
 row-within R k r w l h =
     omega (arith, address-lt (cellAt R k .upper) r (cellAt R k .ins) w h, sum-at (λ i. rows (sizeOf (cellAt R i))) (cellCount R) k l)
-
--- words with the same bits 0 to 11 give one address
-abbrev pub SameInputs : ℕ → ℕ → Type 0
-SameInputs w v = (i : ℕ) → i < 12 → bit w i ≡ bit v i
-
-same-address : (r : ℕ) (is : List ℕ) (w v : ℕ) → AllBelow 12 is → SameInputs w v → address r is w ≡ address r is v
-unfolding address
-same-address r [] w v b h = refl
-same-address r (i ∷ is) w v b h =
-    ap (λ (x : ℕ). address (r * 2 + x) is w) (h i (b .0)) ∙ same-address (r * 2 + bit v i) is w v (b .1) h
-
-pub same-place : (R : List ℕ) → recordsFormed R ≡ true → (k r w v : ℕ) → SameInputs w v → rowPlace R k r w ≡ rowPlace R k r v
-unfolding rowPlace
-same-place R formed k r w v h = ap (λ (a : ℕ). rowsBefore R k + a) (same-address r (cellAt R k .ins) w v (inputs-small R formed k) h)
-
-pub kept-inputs : (w : ℕ) → SameInputs (w % 4096) w
-kept-inputs w i l =
-    sym (bit-low (w / 2 ^ 12) 12 (w % 2 ^ 12) i (mod-lt w (pow-pos 12)) l) ∙ ap (λ (x : ℕ). bit x i) (split w 12)

@@ -1,2 +1,0 @@
--- Laws of `src/reads.rt`.
-pub mod RowBits
