@@ -15,3 +15,4 @@ pub mod PickedBits
 pub mod Powers
 pub mod Puts
 pub mod Tests
+pub mod Turns

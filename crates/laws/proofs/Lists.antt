@@ -1,9 +1,9 @@
--- Laws of `tab`, `rect` and `joined`.
+-- Laws of lists given by their elements: `tab`, `rect` and `joined`.
 -- Assumes nothing.
 use mathlib.Core.Path.{_≡_, refl, sym, _∙_, ap, ap₂}
 use mathlib.Core.List.{List, [], _∷_, _++_, append-nil, append-assoc}
 use Prim.Native.Nat.{ℕ, zero, suc, _+_, _-_, _*_, _<_, _≤_}
-use native.Mathlib.Nat.{not-suc-le-zero, suc-mul, zero-mul, mul-le-mul-right}
+use native.Mathlib.Nat.{not-suc-le-zero, le-of-suc-le-suc, suc-mul, zero-mul, mul-le-mul-right}
 use native.Mathlib.Numerals.{add-one}
 use native.Mathlib.Omega.{arith}
 use lib.ListN.{length, getD, length-append, List·getD-append, List·getD-eq-default}
@@ -12,6 +12,12 @@ use lib.Arith.{digits-lt}
 use Rattle.laws.specs.Tests.{sum}
 use Rattle.laws.specs.Lists.{tab, rect, joined}
 use Rattle.laws.proofs.Cases.{last-or-below, by-less}
+
+-- within a list its default does not matter
+pub getD-default : {A : Type 0} (l : List A) (i : ℕ) (d e : A) → i < length l → getD l i d ≡ getD l i e
+getD-default [] i d e h = absurd (not-suc-le-zero h)
+getD-default (x ∷ l) zero d e h = refl
+getD-default (x ∷ l) (suc i) d e h = getD-default l i d e (le-of-suc-le-suc h)
 
 -- row i of n rows of k elements lies within all of them
 pub row-end : (i n k : ℕ) → i < n → i * k + k ≤ n * k

@@ -3,19 +3,19 @@
 -- Assumes nothing.
 use mathlib.Core.Path.{_≡_, refl, sym, _∙_, ap, ap₂}
 use mathlib.Core.Bool.{Bool, true, false, not, cond, _&&_, _||_, and-true, and-comm, true≢false}
-use Prim.Native.Nat.{ℕ, zero, suc, _*_, _/_, _%_, _^_, _<_}
+use Prim.Native.Nat.{ℕ, zero, suc, _+_, _*_, _/_, _%_, _^_, _<_, _≤_}
 use native.Mathlib.Nat.{pow-suc}
 use native.Mathlib.Omega.{arith}
 use lib.Dec.{eqb}
 use lib.Bits.{bitAnd, bitOr, bitXor, xor-shr, xor-mod, and-lt, and-le-r, or-lt, xor-lt}
-use lib.Pow.{pow-pos}
+use lib.Pow.{pow-pos, pow-mono}
 use borrow.Author.Tests.{eqb-true, eq-eqb, lt-ltb, not-true}
 use Rattle.laws.specs.Bits.{bit, has, flag}
 use Rattle.laws.specs.Tests.{any, sum, count, least}
 use Rattle.laws.proofs.Cases.{by-test, by-less, and-split, and-join, same-test, equal-sym}
 use Rattle.laws.proofs.Tests.{every-at, any-of, any-at, any-out, any-ext, any-one}
 use Rattle.laws.proofs.Find.{least-before}
-use Rattle.laws.proofs.Powers.{sum-bit, sum-small}
+use Rattle.laws.proofs.Powers.{sum-bit, sum-small, lt-pow}
 use Rattle.laws.proofs.Bits.{bit-lt, flag-lt, flag-is, bit-zero, flag-has, has-and, has-or, has-power, same-bits}
 
 -- a test that is both
@@ -25,6 +25,25 @@ not-both p q = absurd (true≢false (sym p ∙ q))
 -- numbers below 2^k with the same set of bits are equal
 pub same-has : (k a b : ℕ) → a < 2 ^ k → b < 2 ^ k → ((i : ℕ) → i < k → has a i ≡ has b i) → a ≡ b
 same-has k a b p q h = same-bits k a b p q (λ i l. sym (flag-has a i) ∙ ap flag (h i l) ∙ flag-has b i)
+
+-- numbers as bits are or-ed in any order
+pub or-assoc : (a b c : ℕ) → bitOr (bitOr a b) c ≡ bitOr a (bitOr b c)
+or-assoc a b c =
+    let k = a + b + c in
+    let p : a < 2 ^ k = within a (omega arith) in
+    let q : b < 2 ^ k = within b (omega arith) in
+    let r : c < 2 ^ k = within c (omega arith) in
+    same-has k (bitOr (bitOr a b) c) (bitOr a (bitOr b c)) (or-lt k (bitOr a b) c (or-lt k a b p q) r) (or-lt k a (bitOr b c) p (or-lt k b c q r))
+    (λ i l.
+    has-or (bitOr a b) c i ∙ ap (λ (t : Bool). t || has c i) (has-or a b i) ∙ or-turn (has a i) (has b i) (has c i)
+    ∙ sym (has-or a (bitOr b c) i ∙ ap (λ (t : Bool). has a i || t) (has-or b c i)))
+  where
+    within : (x : ℕ) → x ≤ a + b + c → x < 2 ^ (a + b + c)
+    within x h = let m = pow-mono {i = x} {j = a + b + c} h in omega (arith, lt-pow x, m)
+
+    or-turn : (x y z : Bool) → ((x || y) || z) ≡ (x || (y || z))
+    or-turn true y z = refl
+    or-turn false y z = refl
 
 pub has-zero : (i : ℕ) → has 0 i ≡ false
 has-zero i = ap (λ (x : ℕ). eqb x 1) (bit-zero i)

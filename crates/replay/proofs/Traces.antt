@@ -4,8 +4,8 @@
 use mathlib.Core.Path.{_≡_, refl, sym, _∙_, ap, ap₂}
 use mathlib.Core.Bool.{cond}
 use mathlib.Core.List.{List, [], _∷_}
-use Prim.Native.Nat.{ℕ, zero, suc, _+_, _*_, _/_, _%_, _<_, _≤_}
-use native.Mathlib.Nat.{mod-lt, div-add-mod', not-suc-le-zero, le-of-suc-le-suc}
+use Prim.Native.Nat.{ℕ, suc, _+_, _*_, _/_, _%_, _<_, _≤_}
+use native.Mathlib.Nat.{mod-lt, div-add-mod'}
 use native.Mathlib.Omega.{arith}
 use lib.Dec.{ltb}
 use lib.ListN.{length, getD, set, drop, List·getD-eq-default}
@@ -13,7 +13,7 @@ use lib.Seq.{getD-take, getD-drop, sets}
 use borrow.Author.Tests.{lt-ltb, le-ltb}
 use Rattle.laws.specs.Lists.{tab, written, putsAt}
 use Rattle.laws.proofs.Cases.{by-less, cond-yes, cond-no}
-use Rattle.laws.proofs.Lists.{length-tab, getD-tab, tab-ext}
+use Rattle.laws.proofs.Lists.{getD-default, length-tab, getD-tab, tab-ext}
 use Rattle.laws.proofs.Filled.{length-written, written-none, written-next, written-sets}
 use Rattle.laws.proofs.Puts.{putsAt-sets}
 use Rattle.bank_spec.specs.declared.Bank.{Bank}
@@ -58,11 +58,6 @@ ran-trace (c ∷ cs) s at tr h =
     let size = length-written tr at es fits in
     ran-trace cs (r .state) (at + 68) (written tr at es) (omega arith)
     ∙ ap (λ (k : ℕ). written (written tr at es) (at + k) rest) (sym n) ∙ written-next tr at es rest fits
-
-getD-default : (l : List ℕ) (i d e : ℕ) → i < length l → getD l i d ≡ getD l i e
-getD-default [] i d e h = absurd (not-suc-le-zero h)
-getD-default (x ∷ l) zero d e h = refl
-getD-default (x ∷ l) (suc i) d e h = getD-default l i d e (le-of-suc-le-suc h)
 
 -- output i of 64, by the blocks held
 module _ (s : State) (all : length (s .scan .outputs) ≡ 64) where
