@@ -1,0 +1,3 @@
+-- Laws that more than one source file needs.
+pub mod Enumeration
+pub mod ReadCell

@@ -1,0 +1,4 @@
+-- Laws of `src/gather.rt`.
+pub mod FewRails
+pub mod Parts
+pub mod SetWords

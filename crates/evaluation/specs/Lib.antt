@@ -1,0 +1,4 @@
+-- What the functions of `evaluation` cite.
+pub mod Agreeing
+pub mod BegunCell
+pub mod Answer
