@@ -9,7 +9,8 @@ ghost use Rattle.reduction_spec.specs.Reduction.{reducedOf, reduceAs};
 ghost use Rattle.reduction_spec.specs.Walk.{walk};
 ghost use Rattle.reduction_spec.specs.Compare.{sameColumns, compatibleColumns};
 ghost use Rattle.reduction_spec.specs.Descent.{descent};
-ghost use Rattle.panel_calls.specs.Exported.{compiledOf, compileBytes};
+ghost use Rattle.panel_calls.specs.Exported.{compiledOf, compileBytes, knownOf, knownBytes};
+ghost use Rattle.evaluation_spec.specs.Known.{evaluate};
 ghost use Rattle.panel_calls.specs.StateBytes.{called, newBytes, admitBytes, latchBytes, stepBytes};
 use bank_spec::MOST_BLOCKS;
 use panel_calls::BankBytes;
@@ -20,6 +21,7 @@ use reduction_spec::NodeWords;
 use reduction_spec::Reached;
 use reduction_spec::Reduction;
 use reduction_spec::Widths;
+use sheet_spec::MOST_OUTPUTS;
 use sheet_spec::Table;
 
 // The least of refusals 1 to 6 of a job and its sheet; 0 where there is none.
@@ -132,6 +134,22 @@ pub extern "C" fn cascade_compile(
         ≡ compileBytes (now (nodes .entry)) (now (records .entry)) (now (rows .entry)) (now (widths .entry)) (job n m k l (now (order .entry))) (now (sheet .entry)) ⌝ }
 {
     panel_calls::compile(n, m, k, l, order, sheet, nodes, records, rows, widths)
+}
+
+// Which outputs of a stored cascade are certain where the inputs of the mask are known and are those of the word: 0, and each output is 0, 1 or 2 for
+// unknown; or 12, and the outputs are as they were.
+#[no_mangle]
+pub extern "C" fn cascade_known(
+    records: &[u8],
+    rows: &[u8],
+    known: u16,
+    word: u16,
+    outputs: &mut [u8; MOST_OUTPUTS],
+) -> u8
+    ensures { λ r.
+        ⌜ knownOf r (now (outputs .exit)) ≡ knownBytes (evaluate (now (records .entry)) (now (rows .entry)) known word) (now (outputs .entry)) ⌝ }
+{
+    panel_calls::known(records, rows, known, word, outputs)
 }
 
 // A new bank with the scan limit S, and its fresh scan state; 1 where S is out of range, and then both are as they were.

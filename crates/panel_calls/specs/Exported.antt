@@ -8,6 +8,7 @@ use lib.ListN.{getD}
 use Rattle.laws.specs.Lists.{puts}
 use Rattle.sheet_spec.specs.Job.{Job}
 use Rattle.cutting.specs.Outcome.{outcome}
+use Rattle.evaluation_spec.specs.Known.{Evaluated, refused, evaluated}
 use Rattle.cutting.specs.declared.Compilation.{Compilation}
 pub use Rattle.panel_calls.specs.declared.Totals.{Totals}
 
@@ -34,3 +35,15 @@ unfoldable pub compileBytes : List ℕ → List ℕ → List ℕ → List ℕ �
 compileBytes nodes records rows widths j s =
     let c = outcome nodes records rows j s in
     compiledOf (totalsOf (c .answer)) (c .nodes) (c .records) (c .rows) (widthsLent (c .answer) widths)
+
+-- what an evaluation answers, and the lent outputs after: written where it is 0, else as they were
+pub record EvaluationBytes : Type 0 where
+  pub answer : ℕ
+  pub outputs : List ℕ
+
+abbrev pub knownOf : ℕ → List ℕ → EvaluationBytes
+knownOf n outs = record { answer = n; outputs = outs }
+
+abbrev pub knownBytes : Evaluated → List ℕ → EvaluationBytes
+knownBytes (refused n) old = knownOf n old
+knownBytes (evaluated outs) old = knownOf 0 outs

@@ -6,7 +6,8 @@ ghost use mathlib.Core.List.{[]};
 ghost use lib.ListN.{getD};
 ghost use Rattle.sheet_spec.specs.Job.{job};
 ghost use Rattle.laws.specs.Lists.{puts};
-ghost use Rattle.panel_calls.specs.Exported.{widthsLent, compiledOf, compileBytes};
+ghost use Rattle.panel_calls.specs.Exported.{widthsLent, compiledOf, compileBytes, knownOf, knownBytes};
+ghost use Rattle.evaluation_spec.specs.Known.{evaluate};
 ghost use Rattle.panel_calls.specs.StateBytes.{called, newBytes, admitBytes, latchBytes, stepBytes};
 use crate::state_bytes::bank_in;
 use crate::state_bytes::put_bank;
@@ -18,6 +19,7 @@ use bank_spec::MOST_BLOCKS;
 use bank_spec::StepAnswer;
 use cutting::Compilation;
 use reduction_spec::Widths;
+use sheet_spec::MOST_OUTPUTS;
 use sheet_spec::MOST_VARIABLES;
 
 // A bank and a scan state as bytes (specs/StateBytes.antt says what stands where).
@@ -96,6 +98,26 @@ pub fn compile(
         rows: made.rows,
         bits: made.bits,
     }
+}
+
+// Which outputs of a stored cascade are certain where the inputs of the mask are known and are those of the word: 0, and each output is 0, 1 or 2 for
+// unknown; or 12, and the outputs are as they were.
+pub fn known(
+    records: &[u8],
+    rows: &[u8],
+    known: u16,
+    word: u16,
+    outputs: &mut [u8; MOST_OUTPUTS],
+) -> u8
+    ensures { λ r.
+        ⌜ knownOf r (now (outputs .exit)) ≡ knownBytes (evaluate (now (records .entry)) (now (rows .entry)) known word) (now (outputs .entry)) ⌝ }
+{
+    let made = evaluation::evaluate(records, rows, known, word);
+    if made.refusal == 0 {
+        let certain = made.outputs;
+        *outputs = certain;
+    }
+    made.refusal
 }
 
 // A new bank with the scan limit S, and its fresh scan state; 1 where S is out of range, and then both are as they were.
