@@ -3,7 +3,7 @@
 -- Assumes nothing.
 use mathlib.Core.Path.{_≡_, sym, _∙_, ap, ap₂}
 use mathlib.Core.Logic.{_⊎_, inl, inr}
-use mathlib.Core.Bool.{false}
+use mathlib.Core.Bool.{true, false}
 use mathlib.Core.List.{List}
 use Prim.Native.Nat.{ℕ, suc, _+_, _-_, _*_, _^_, _<_, _≤_}
 use native.Mathlib.Omega.{arith}
@@ -19,11 +19,11 @@ use Rattle.sheet_spec.specs.Table.{table}
 use Rattle.sheet_spec.proofs.Promises.{job-accepted, output-height}
 use Rattle.reduction_spec.specs.declared.Node.{Node}
 use Rattle.reduction_spec.specs.Merge.{reduced, refuse7}
-use Rattle.stored_spec.specs.StoredForm.{cellCount}
+use Rattle.stored_spec.specs.StoredForm.{cellCount, wellFormed}
 use Rattle.stored_spec.specs.Run.{Running, run}
 use Rattle.cutting_spec.specs.Choice.{refuse8}
 use Rattle.cutting_spec.specs.Compile.{Answer, refused, accepted, CompiledAs, made, totals, acceptance, compile}
-use Rattle.cutting_spec.proofs.Promises.{case, accepts, cuts-some, length-stored, Emitted, emitted-allowed, compiled-unset, cells-count, made-cuts, made-count, made-emits, made-all}
+use Rattle.cutting_spec.proofs.Promises.{case, accepts, cuts-some, length-stored, Emitted, emitted-allowed, compiled-unset, cells-count, made-formed, made-cuts, made-count, made-emits, made-all}
 use Rattle.bank_spec.specs.Book.{Block}
 use Rattle.bank_spec.specs.Demand3.{CompiledBy, SetAllowed}
 use Rattle.bank_spec.proofs.CompiledAs.{none}
@@ -76,6 +76,9 @@ module _ (j : Job) (s : List ℕ) (B : Block) (c : CompiledBy j s B) where
       let bytes = made j (table j s) .rows in
       c .rowsWritten ∙ ap (λ (r : CompiledAs Node). take (c .totals .rows) (r .rows)) accepted-as
       ∙ ap (λ (n : ℕ). take n (written (c .rows) 0 bytes)) rows-made ∙ written-front bytes (c .rows)
+
+  pub compiled-formed : wellFormed (B .records) (B .rows) ≡ true
+  compiled-formed = ap₂ wellFormed compiled-records compiled-rows ∙ made-formed j s compiled-sheet compiled-cut
 
   run-made : (w k : ℕ) → run (B .records) (B .rows) w k ≡ run (made j (table j s) .records) (made j (table j s) .rows) w k
   run-made w k = ap₂ (λ (R bytes : List ℕ). run R bytes w k) compiled-records compiled-rows

@@ -9,6 +9,8 @@ pub use Rattle.bank_spec.proofs.AsBook.{fresh-related, call-same}
 pub use Rattle.bank_spec.proofs.StateSizes.{Sized, call-sized}
 -- what the compiler writes is a compiled block
 pub use Rattle.bank_spec.proofs.CompiledAs.{as-compiled}
+-- which is well formed, and its outputs are set to allowed values
+pub use Rattle.bank_spec.proofs.CompiledBlocks.{compiled-formed, compiled-whole}
 -- and it is one for every arrangement of its sheet's records
 pub use Rattle.bank_spec.proofs.LineOrder.{compiled-same, allowed-same}
 -- demand 3
