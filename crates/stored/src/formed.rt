@@ -1,6 +1,6 @@
 // The test of a stored cascade: its records, its cells and its rows.
 ghost use mathlib.Core.Path.{_≡_};
-ghost use mathlib.Core.Bool.{true, cond, not, _&&_};
+ghost use mathlib.Core.Bool.{true, cond, _&&_};
 ghost use Prim.Native.Nat.{_≤_, _<_, _+_, _-_, _*_, _/_, _^_};
 ghost use lib.Dec.{eqb, leb, ltb};
 ghost use lib.ListN.{length, getD};
@@ -8,57 +8,73 @@ ghost use Rattle.laws.specs.Tests.{every, within};
 ghost use Rattle.sheet_spec.specs.Job.{isInput};
 ghost use Rattle.sheet_spec.specs.Limits.{largestInputs, largestOutputs};
 ghost use Rattle.stored_spec.specs.Cells.{cell, fits};
-ghost use Rattle.stored_spec.specs.StoredForm.{recordCount, variable, cutByte, railByte, recordFormed, cellCount, cellFormed};
+ghost use Rattle.stored_spec.specs.StoredForm.{recordCount, cutByte, railByte, recordFormed, cellCount, cellFormed};
 ghost use Rattle.stored_spec.specs.StoredForm.{recordsFormed, rowsFormed, rowCount, wellFormed};
+ghost use Rattle.stored.specs.Formed.{isNamed, cutFormed, placeOf, bitsOf, tooMany, Counted, rowsWanted};
 use crate::casts::power;
 use numbers::wide;
 use sheet_spec::MOST_VARIABLES;
 use stored_spec::Cell;
 use stored_spec::MOST_ROWS;
 
-// No record before record i has its variable.
-fn first_of(records: &[u8], i: usize) -> bool
-    requires { do ⌜ i < (← ⟦records.len()⟧) / 4 ⌝ }
-    ensures { λ r. ⌜ r ≡ every i (λ k. not (eqb (variable (now (records .entry)) k) (variable (now (records .entry)) i))) ⌝ }
+// More rows than there may be, for records that are not well formed.
+const TOO_MANY: usize = MOST_ROWS + 1;
+
+// An input or an output.
+fn named(v: usize) -> bool
+    ensures { λ r. ⌜ r ≡ isNamed v ⌝ }
 {
-    let v = records[i * 4];
-    let mut first = true;
-    let mut k = 0;
-    while k < i {
-        first = first & (records[k * 4] != v);
-        k += 1;
+    if v < 128 {
+        return v <= 11;
     }
-    first
+    v <= 135
 }
 
-// Record i: its bytes in range, its variable in no record before it.
-fn record_formed(records: &[u8], i: usize) -> bool
-    requires { do ⌜ i < (← ⟦records.len()⟧) / 4 ⌝ }
-    ensures { λ r. ⌜ r ≡ recordFormed (now (records .entry)) i ⌝ }
+// The bytes after the variable: any rails at a cut, else none.
+fn cut_formed(cut: usize, rail: usize, last: usize) -> bool
+    ensures { λ r. ⌜ r ≡ cutFormed cut rail last ⌝ }
 {
-    let v = wide(records[i * 4]);
-    let cut = wide(records[i * 4 + 1]);
-    let rail = wide(records[i * 4 + 2]);
-    let last = wide(records[i * 4 + 3]);
-    let first = first_of(records, i);
-    ((v <= 11) | ((128 <= v) & (v <= 135)))
-        & (cut <= 1)
-        & ((cut == 1) | (rail == 0))
-        & (last == 0)
-        & first
+    if cut == 1 {
+        return last == 0;
+    }
+    (cut == 0) & (rail == 0) & (last == 0)
 }
 
+// The bit of a variable: each input and each output has its own.
+fn variable_bit(v: usize) -> usize
+    requires { ⌜ v < 256 ⌝ }
+    ensures { λ r. ⌜ r ≡ 2 ^ placeOf v ⌝ }
+{
+    1 << ((v + v / 8) % 64)
+}
+
+// Each record: its bytes in range, its variable in no record before it. Branches are faster here than tests of several records at once, for
+// which the bytes would be gathered one by one.
 fn each_formed(records: &[u8]) -> bool
     ensures { λ r. ⌜ r ≡ every (recordCount (now (records .entry))) (recordFormed (now (records .entry))) ⌝ }
 {
     let count = records.len() / 4;
-    let mut formed = true;
+    let mut seen = 0;
     let mut i = 0;
     while i < count {
-        formed = formed & record_formed(records, i);
+        let v = wide(records[i * 4]);
+        let cut = wide(records[i * 4 + 1]);
+        let rail = wide(records[i * 4 + 2]);
+        let last = wide(records[i * 4 + 3]);
+        let bit = variable_bit(v);
+        if !named(v) {
+            return false;
+        }
+        if !cut_formed(cut, rail, last) {
+            return false;
+        }
+        if seen & bit != 0 {
+            return false;
+        }
+        seen = seen | bit;
         i += 1;
     }
-    formed
+    true
 }
 
 // Whole records, 1 to 20 of them.
@@ -184,54 +200,106 @@ pub fn rows_of(records: &[u8]) -> usize
     rows
 }
 
-// Of 1 to 20 whole records: each record, the last cut, each cell, and the number of rows.
-fn contents_formed(records: &[u8]) -> bool
+// The rows of a cell that a cut ends; too many where it is larger than the largest.
+fn rows_or_many(cut: usize, inputs: usize, outputs: usize) -> usize
+    ensures { λ r. ⌜ (r ≡ cond (eqb cut 1) (cond (fits largestInputs largestOutputs (cell inputs outputs)) (2 ^ inputs) tooMany) 0) × (r ≤ tooMany) ⌝ }
+{
+    if cut == 1 {
+        let c = Cell { inputs, outputs };
+        if c.fits(Cell::MAX_INPUTS, Cell::MAX_OUTPUTS) {
+            return power(inputs);
+        }
+        return TOO_MANY;
+    }
+    0
+}
+
+// The rows of all cells; too many where one is larger than the largest.
+fn all_rows(records: &[u8]) -> usize
+    requires { do ⌜ (← ⟦records.len()⟧) ≤ 80 ⌝ }
+    ensures { λ r. ⌜ Counted (every (cellCount (now (records .entry))) (cellFormed (now (records .entry)))) (rowCount (now (records .entry))) r ⌝ }
+{
+    let count = records.len() / 4;
+    let mut rows = 0;
+    let mut ins = 0;
+    let mut outs = 0;
+    let mut upper = 0;
+    let mut i = 0;
+    while i < count {
+        let v = wide(records[i * 4]);
+        let cut = wide(records[i * 4 + 1]);
+        let rail = wide(records[i * 4 + 2]);
+        let more = inputs_with(ins, v);
+        let over = outputs_with(outs, v);
+        rows = rows + rows_or_many(cut, upper + more, over + rail);
+        ins = after(cut, 0, more);
+        outs = after(cut, 0, over);
+        upper = after(cut, rail, upper);
+        i += 1;
+    }
+    rows
+}
+
+// The rows of 1 to 20 whole records, of which each record, the last cut, each cell and the number of rows is formed; else too many.
+fn contents_rows(records: &[u8]) -> usize
     requires { ⌜ (1 ≤ recordCount (now records)) × (length (now records) ≤ 80) ⌝ }
-    ensures { λ r. ⌜ r ≡ (every (recordCount (now (records .entry))) (recordFormed (now (records .entry)))
+    ensures { λ r. ⌜ r ≡ cond (every (recordCount (now (records .entry))) (recordFormed (now (records .entry)))
         && eqb (cutByte (now (records .entry)) (recordCount (now (records .entry)) - 1)) 1
         && eqb (railByte (now (records .entry)) (recordCount (now (records .entry)) - 1)) 0
         && every (cellCount (now (records .entry))) (cellFormed (now (records .entry)))
-        && leb (rowCount (now (records .entry))) 32768) ⌝ }
+        && leb (rowCount (now (records .entry))) 32768) (rowCount (now (records .entry))) tooMany ⌝ }
 {
     let each = each_formed(records);
     let last = last_cut(records);
-    let fit = cells_fit(records);
-    if fit {
-        return each & last & (rows_of(records) <= MOST_ROWS);
+    let rows = all_rows(records);
+    if each & last & (rows <= MOST_ROWS) {
+        return rows;
     }
-    false
+    TOO_MANY
+}
+
+// The rows of well formed records; of any other too many.
+fn rows_wanted(records: &[u8]) -> usize
+    ensures { λ r. ⌜ r ≡ rowsWanted (now (records .entry)) ⌝ }
+{
+    if shaped(records) {
+        return contents_rows(records);
+    }
+    TOO_MANY
 }
 
 // The records are well formed.
 pub fn records_formed(records: &[u8]) -> bool
     ensures { λ r. ⌜ r ≡ recordsFormed (now (records .entry)) ⌝ }
 {
-    if shaped(records) {
-        return contents_formed(records);
-    }
-    false
+    rows_wanted(records) <= MOST_ROWS
 }
 
-// The rows of well formed records.
-pub fn row_count(records: &[u8]) -> usize
-    requires { ⌜ recordsFormed (now records) ≡ true ⌝ }
-    ensures { λ r. ⌜ r ≡ rowCount (now (records .entry)) ⌝ }
+// The bits that some row has. The loop touches bytes alone, and has no exit, so that it is made for many bytes at once.
+fn bits_of(rows: &[u8]) -> u8
+    ensures { λ r. ⌜ r ≡ bitsOf (now (rows .entry)) ⌝ }
 {
-    rows_of(records)
-}
-
-// Each of the count rows from place at on is below limit.
-fn rows_below(rows: &[u8], at: usize, count: usize, limit: usize) -> bool
-    requires { do ⌜ at + count ≤ (← ⟦rows.len()⟧) ⌝ }
-    ensures { λ r. ⌜ r ≡ every count (λ i. ltb (getD (now (rows .entry)) (at + i) 0) limit) ⌝ }
-{
-    let mut below = true;
+    let count = rows.len();
+    let mut seen = 0u8;
     let mut i = 0;
     while i < count {
-        below = below & (wide(rows[at + i]) < limit);
+        seen = seen | rows[i];
         i += 1;
     }
-    below
+    seen
+}
+
+// Each of the count rows from place at on is below 2^outputs. Any byte is below 2^8.
+fn rows_below(rows: &[u8], at: usize, count: usize, outputs: usize) -> bool
+    requires { do ⌜ (at + count ≤ (← ⟦rows.len()⟧)) × (outputs ≤ largestOutputs) ⌝ }
+    ensures { λ r. ⌜ r ≡ every count (λ i. ltb (getD (now (rows .entry)) (at + i) 0) (2 ^ outputs)) ⌝ }
+{
+    if outputs == Cell::MAX_OUTPUTS {
+        return true;
+    }
+    let end = at + count;
+    let seen = wide(bits_of(&rows[at..end]));
+    seen < power(outputs)
 }
 
 // The rows of a cell that a cut ends, from place at on, are below 2^outputs.
@@ -240,10 +308,8 @@ fn cell_below(rows: &[u8], cut: usize, at: usize, inputs: usize, outputs: usize)
     ensures { λ r. ⌜ r ≡ cond (eqb cut 1) (every (2 ^ inputs) (λ i. ltb (getD (now (rows .entry)) (at + i) 0) (2 ^ outputs))) true ⌝ }
 {
     if cut == 1 {
-        let c = Cell { inputs, outputs };
-        let count = c.rows();
-        let limit = power(outputs);
-        return rows_below(rows, at, count, limit);
+        let count = power(inputs);
+        return rows_below(rows, at, count, outputs);
     }
     true
 }
@@ -281,11 +347,9 @@ fn rows_formed(records: &[u8], rows: &[u8]) -> bool
 pub fn formed(records: &[u8], rows: &[u8]) -> bool
     ensures { λ r. ⌜ r ≡ wellFormed (now (records .entry)) (now (rows .entry)) ⌝ }
 {
-    if records_formed(records) {
-        if rows.len() == row_count(records) {
-            return rows_formed(records, rows);
-        }
-        return false;
+    let wanted = rows_wanted(records);
+    if (wanted <= MOST_ROWS) & (rows.len() == wanted) {
+        return rows_formed(records, rows);
     }
     false
 }

@@ -1,0 +1,4 @@
+-- Laws of `src/formed.rt`.
+mod RecordBits
+mod RowBytes
+mod RowTotals
