@@ -4,7 +4,7 @@
 use mathlib.Core.Path.{_≡_, refl, sym, _∙_, ap}
 use mathlib.Core.Bool.{true, not, _||_}
 use mathlib.Core.List.{List, [], _∷_, _++_}
-use Prim.Native.Nat.{ℕ, zero, suc, _+_, _-_, _*_, _^_, _<_}
+use Prim.Native.Nat.{ℕ, zero, suc, _+_, _-_, _*_, _^_, _<_, _≤_}
 use native.Mathlib.Nat.{not-suc-le-zero, add-zero, pow-suc}
 use native.Mathlib.Omega.{arith}
 use lib.Dec.{eqb, leb}
@@ -15,6 +15,7 @@ use Rattle.laws.specs.Tests.{every, within}
 use Rattle.laws.proofs.Bits.{bit-lt}
 use Rattle.laws.proofs.Cases.{by-test, cond-both, cond-yes, and-split}
 use Rattle.laws.proofs.Counts.{sum-at}
+use Rattle.laws.proofs.Tests.{within-has}
 use Rattle.sheet_spec.specs.Job.{isInput}
 use Rattle.stored_spec.specs.Cells.{rows}
 use Rattle.stored_spec.specs.StoredForm.{StoredCell, Reading, recordCount, variable, cutByte, railByte, lastByte, withVariable, withCut, reading, storedCells, cellCount, noCell, cellAt, sizeOf, rowsBefore, rowCount, recordFormed, recordsFormed}
@@ -69,19 +70,25 @@ pub record Ordered (r : Reading) : Type 0 where
   pub begun : AllBelow 12 (r .ins)
   pub follow : Follow 0 (r .ended) (r .upper)
 
-input-small : (R : List ℕ) (i : ℕ) → recordFormed R i ≡ true → isInput (variable R i) ≡ true → variable R i < 12
-unfolding recordFormed
-input-small R i e p =
-    let v = variable R i in
-    let d = and-split _ (every i (λ k. not (eqb (variable R k) v))) e .0 in
-    let c = and-split _ (eqb (lastByte R i) 0) d .0 in
-    let b = and-split _ (eqb (cutByte R i) 1 || eqb (railByte R i) 0) c .0 in
-    let a : (leb v 11 || within 128 135 v) ≡ true = and-split _ (leb (cutByte R i) 1) b .0 in
-    by-test (leb v 11) (λ q. omega (arith, leb-true v 11 q))
-    (λ q.
-    let w : within 128 135 v ≡ true = rw q at a in
-    let l = leb-true 128 v (and-split (leb 128 v) (leb v 135) w .0) in
-    absurd (omega (arith, l, ltb-true v 128 p)))
+-- the variable of a well formed record: an input 0 to 11 or an output 128 to 135
+module _ (R : List ℕ) (i : ℕ) (e : recordFormed R i ≡ true) where
+  in-range : (leb (variable R i) 11 || within 128 135 (variable R i)) ≡ true
+  unfolding recordFormed
+  in-range =
+      let d = and-split _ (every i (λ k. not (eqb (variable R k) (variable R i)))) e .0 in
+      let c = and-split _ (eqb (lastByte R i) 0) d .0 in
+      let b = and-split _ (eqb (cutByte R i) 1 || eqb (railByte R i) 0) c .0 in
+      and-split _ (leb (cutByte R i) 1) b .0
+
+  pub small-input : variable R i < 128 → variable R i < 12
+  small-input l =
+      by-test (leb (variable R i) 11) (λ q. omega (arith, leb-true (variable R i) 11 q))
+      (λ q. let w : within 128 135 (variable R i) ≡ true = rw q at in-range in absurd (omega (arith, within-has 128 135 (variable R i) w .0, l)))
+
+  pub small-output : 128 ≤ variable R i → variable R i < 136
+  small-output l =
+      by-test (leb (variable R i) 11) (λ q. absurd (omega (arith, leb-true (variable R i) 11 q, l)))
+      (λ q. let w : within 128 135 (variable R i) ≡ true = rw q at in-range in omega (arith, within-has 128 135 (variable R i) w .1))
 
 with-variable : (R : List ℕ) (i : ℕ) → recordFormed R i ≡ true → Ordered (reading R i) → Ordered (withVariable (reading R i) (variable R i))
 unfolding withVariable
@@ -90,7 +97,7 @@ with-variable R i e h =
       inputs = h .inputs;
       begun =
           by-test (isInput (variable R i))
-          (λ p. rw p (below-snoc 12 (reading R i .ins) (variable R i) (h .begun) (input-small R i e p))) (λ p. rw p (h .begun));
+          (λ p. rw p (below-snoc 12 (reading R i .ins) (variable R i) (h .begun) (small-input R i e (ltb-true (variable R i) 128 p)))) (λ p. rw p (h .begun));
       follow = h .follow;
     }
 

@@ -1,46 +1,22 @@
--- The records of a cell: where they begin, which variables they hold, and that a cell that has ended stays as it is.
+-- The records of a cell: where they begin, and that a cell that has ended stays as it is.
 -- Assumes nothing.
 use mathlib.Core.Path.{_≡_, refl, sym, _∙_, ap, subst}
-use mathlib.Core.Bool.{Bool, true, false, cond, not, _||_}
+use mathlib.Core.Bool.{Bool, true, false, cond}
 use mathlib.Core.List.{List, [], _∷_, _++_}
 use Prim.Native.Nat.{ℕ, zero, suc, _+_, _≤_, _<_}
 use native.Mathlib.Numerals.{add-one}
 use native.Mathlib.Omega.{arith}
-use lib.Dec.{eqb, leb}
+use lib.Dec.{eqb}
 use lib.ListN.{length, getD, List·getD-append}
 use lib.Seq.{getD-at}
-use borrow.Author.Tests.{eqb-true, eq-eqb, leb-true, lt-ltb}
-use Rattle.laws.specs.Tests.{every, within}
-use Rattle.laws.proofs.Cases.{by-test, last-or-below, and-split, and-join, cond-yes, cond-no, cond-both}
-use Rattle.laws.proofs.Tests.{within-has}
-use Rattle.stored_spec.specs.StoredForm.{StoredCell, Reading, recordCount, variable, cutByte, railByte, lastByte, withVariable, withCut, reading, storedCells, cellCount, noCell, cellAt, recordFormed, recordsFormed}
+use borrow.Author.Tests.{eqb-true, eq-eqb, lt-ltb}
+use Rattle.laws.specs.Tests.{within}
+use Rattle.laws.proofs.Cases.{by-test, last-or-below, and-join, cond-yes, cond-no, cond-both}
+use Rattle.stored_spec.specs.StoredForm.{StoredCell, Reading, recordCount, variable, cutByte, railByte, withVariable, withCut, reading, storedCells, cellCount, noCell, cellAt, recordsFormed}
 use Rattle.stored.specs.Reads.{hasCell}
 use Rattle.stored_spec.proofs.StoredCells.{cellsTo, endedCell, next-ended, longer, earlier, latest}
 use Rattle.stored.proofs.CellReads.{partTo}
 use Rattle.evaluation.specs.BegunCell.{endedBy, startOf}
-
--- the variable of a well formed record
-module _ (R : List ℕ) (i : ℕ) (e : recordFormed R i ≡ true) where
-  abbrev v : ℕ
-  v = variable R i
-
-  in-range : (leb v 11 || within 128 135 v) ≡ true
-  unfolding recordFormed
-  in-range =
-      let d = and-split _ (every i (λ k. not (eqb (variable R k) v))) e .0 in
-      let c = and-split _ (eqb (lastByte R i) 0) d .0 in
-      let b = and-split _ (eqb (cutByte R i) 1 || eqb (railByte R i) 0) c .0 in
-      and-split _ (leb (cutByte R i) 1) b .0
-
-  pub small-input : variable R i < 128 → variable R i < 12
-  small-input l =
-      by-test (leb v 11) (λ q. omega (arith, leb-true v 11 q))
-      (λ q. let w : within 128 135 v ≡ true = rw q at in-range in absurd (omega (arith, within-has 128 135 v w .0, l)))
-
-  pub small-output : 128 ≤ variable R i → variable R i < 136
-  small-output l =
-      by-test (leb v 11) (λ q. absurd (omega (arith, leb-true v 11 q, l)))
-      (λ q. let w : within 128 135 v ≡ true = rw q at in-range in omega (arith, within-has 128 135 v w .1))
 
 module _ (R : List ℕ) where
   cells-cut : (i : ℕ) → cutByte R i ≡ 1 → cellsTo R (suc i) ≡ cellsTo R i ++ (endedCell R i ∷ [])

@@ -4,8 +4,8 @@ use mathlib.Core.Path.{sym, subst}
 use Prim.Native.Nat.{ℕ, _+_, _-_}
 use native.Mathlib.Omega.{arith}
 use denote.Ref.{now}
+use Rattle.stored_spec.proofs.FormedCells.{small-output}
 use Rattle.stored_spec.proofs.StoredParts.{records-have}
-use Rattle.evaluation.proofs.cells.CellRecords.{small-output}
 use Rattle.evaluation.proofs.cells.CellBits.{SetTo, set-none, some-bit, few-bits, set-more, set-all}
 use borrow.Author.Needs.{needs}
 use Rattle.evaluation.proofs.cells.set_bits.Statement.{statement}

@@ -6,11 +6,12 @@ use denote.Ref.{now}
 use borrow.Author.Tests.{ne-eqb}
 use Rattle.stored_spec.specs.StoredForm.{cutByte}
 use Rattle.stored_spec.proofs.ReadWriteCases.{formed-records}
+use Rattle.stored_spec.proofs.FormedCells.{small-input}
 use Rattle.stored_spec.proofs.StoredParts.{records-have}
 use Rattle.evaluation_spec.specs.RailSets.{railSet, someOuts, eachOuts}
 use Rattle.evaluation.specs.BegunCell.{Begun, withVar}
 use Rattle.evaluation.proofs.cells.BegunCells.{Few, begun-keeps, begun-with, begun-uncut}
-use Rattle.evaluation.proofs.cells.CellRecords.{small-input, ended-next, ended-same}
+use Rattle.evaluation.proofs.cells.CellRecords.{ended-next, ended-same}
 use borrow.Author.Needs.{needs}
 use Rattle.evaluation.proofs.cells.turn.Statement.{statement}
 use Rattle.evaluation.proofs.cells.turn.Tie as tie
