@@ -1,5 +1,5 @@
--- Laws of words, numbers and bytes in text: how long a text is that begins with a word, how great a number of five digits is, and what the digits
--- of bytes are.
+-- Laws of words, numbers and bytes in text: how long a text is that begins with a word, how great a number of five digits is, or of four in base
+-- 16, and what the digits of bytes are.
 -- Assumes nothing.
 use mathlib.Core.Path.{_≡_, refl, sym, _∙_, ap₂}
 use mathlib.Core.Bool.{Bool, true, false, _&&_}
@@ -14,7 +14,7 @@ use borrow.Author.Tests.{eqb-true, leb-true, ltb-true}
 use Rattle.laws.specs.Tests.{every, within}
 use Rattle.laws.proofs.Tests.{within-has, every-at}
 use Rattle.laws.proofs.Cases.{by-test, by-less, and-split}
-use Rattle.call_text.specs.Words.{begins, isDigit, decimalTo, isNumber, hexDigit, isHex, isBytes}
+use Rattle.call_text.specs.Words.{begins, isDigit, decimalTo, isNumber, hexDigit, isHex, hexTo, isHexWord, isBytes}
 use Rattle.call_text.specs.Lines.{bankWord, latchWord, admitWord, memoryWord}
 
 -- a text that begins with a word of bytes that are not 0 is at least as long
@@ -78,6 +78,31 @@ module _ (l : List ℕ) (h : isNumber l ≡ true) where
 pub hex-below : (l : List ℕ) (i : ℕ) → isHex l i ≡ true → hexDigit (getD l i 0) < 16
 unfolding isHex
 hex-below l i = ltb-true (hexDigit (getD l i 0)) 16
+
+-- one digit in base 16 more
+pub hex-next : (l : List ℕ) (n : ℕ) → hexTo l (n + 1) ≡ 16 * hexTo l n + hexDigit (getD l n 0)
+unfolding hexTo
+hex-next l n = rw add-one refl
+
+-- the number that the first of one to four digits in base 16 are
+module _ (l : List ℕ) (h : isHexWord l ≡ true) where
+  word-tests : (length l ≤ 4) × (every (length l) (isHex l) ≡ true)
+  unfolding isHexWord
+  word-tests = let p = and-split (within 1 4 (length l)) (every (length l) (isHex l)) h in (within-has 1 4 (length l) (p .0) .1, p .1)
+
+  hex-to-below : (n : ℕ) → n ≤ length l → hexTo l n < 16 ^ n
+  unfolding hexTo
+  hex-to-below zero k = omega arith
+  hex-to-below (suc n) k =
+      let below = hex-to-below n (omega arith) in
+      let digit = hex-below l n (every-at (isHex l) (length l) (word-tests .1) n k) in
+      omega (arith, pow-suc 16 n)
+
+  pub hex-small : (n : ℕ) → n ≤ length l → hexTo l n < 65536
+  hex-small n k =
+      let four : n ≤ 4 = omega (arith, word-tests .0) in
+      let most : 16 ^ n ≤ 16 ^ 4 = pow-le-pow-right (omega arith) four in
+      omega (arith, hex-to-below n k)
 
 -- the text is - alone
 none : List ℕ → Bool

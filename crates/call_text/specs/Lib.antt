@@ -1,4 +1,5 @@
 -- What the functions of `call_text` cite.
+pub mod Known
 pub mod Lines
 pub mod Opened
 pub mod Words

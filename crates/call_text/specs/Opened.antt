@@ -1,8 +1,9 @@
 -- Names every definition of the crate that computes: a proof that says `unfolding textOpened` computes with them all.
 -- Assumes nothing.
-use Rattle.call_text.specs.Words.{begins, isDigit, decimalTo, isNumber, hexDigit, isHex, hexByte, isBytes, bytesOf}
+use Rattle.call_text.specs.Words.{begins, isDigit, decimalTo, isNumber, hexDigit, isHex, hexTo, isHexWord, hexByte, isBytes, bytesOf}
+use Rattle.call_text.specs.Known.{says, said, knownWords, knownLine, readKnown}
 use Rattle.call_text.specs.Lines.{bankLine, wordPlace, isWordByte, latchLine, spaceIn, admitLine, lineIn, lineEnd, linesTo, linesIn, memoryIn, readText}
 
 unfoldable pub textOpened : Unit {0}
-unfolding begins isDigit decimalTo isNumber hexDigit isHex hexByte isBytes bytesOf bankLine wordPlace isWordByte latchLine spaceIn admitLine lineIn lineEnd linesTo linesIn memoryIn readText
+unfolding begins isDigit decimalTo isNumber hexDigit isHex hexTo isHexWord hexByte isBytes bytesOf bankLine wordPlace isWordByte latchLine spaceIn admitLine lineIn lineEnd linesTo linesIn memoryIn readText says said knownWords knownLine readKnown
 textOpened = tt

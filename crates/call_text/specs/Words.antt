@@ -38,6 +38,18 @@ isHex l i = ltb (hexDigit (getD l i 0)) 16
 unfoldable pub hexByte : List ℕ → ℕ → ℕ
 hexByte l i = 16 * hexDigit (getD l i 0) + hexDigit (getD l (i + 1) 0)
 
+-- the number that the first n digits in base 16 are
+unfoldable pub hexTo : List ℕ → ℕ → ℕ
+hexTo l zero = 0
+hexTo l (suc n) = 16 * hexTo l n + hexDigit (getD l n 0)
+
+abbrev pub hexWord : List ℕ → ℕ
+hexWord l = hexTo l (length l)
+
+-- one to four digits in base 16
+unfoldable pub isHexWord : List ℕ → Bool
+isHexWord l = within 1 4 (length l) && every (length l) (isHex l)
+
 -- two digits a byte, at most 65,535 bytes; or - for no bytes
 unfoldable pub isBytes : List ℕ → Bool
 isBytes l =

@@ -1,9 +1,12 @@
-// A list of calls as text, read into its bytes.
+// A list of calls as text, read into its bytes. Also a line that says which inputs are known.
+mod known;
 mod lines;
 mod words;
 
 ghost use mathlib.Core.Path.{_≡_};
+ghost use Rattle.call_text.specs.Known.{readKnown};
 ghost use Rattle.call_text.specs.Lines.{lineEnd, memoryIn, readText};
+use crate::known::known_line;
 use crate::lines::memory_line;
 use crate::lines::read_lines;
 use crate::words::byte_in;
@@ -14,6 +17,13 @@ pub struct TextRead {
     pub refusal: u8,
     pub size: usize,
     pub bad: usize,
+}
+
+// What a line known=HEX word=HEX says; nothing is known where it can't be read.
+pub struct KnownRead {
+    pub good: bool,
+    pub known: u16,
+    pub word: u16,
 }
 
 // The length of the first line.
@@ -44,4 +54,11 @@ pub fn read_text(text: &[u8], first: u32, code: &mut [u8]) -> TextRead
         };
     }
     read_lines(text, first as usize, code)
+}
+
+// Reads the first line, which says the mask of known inputs and their values.
+pub fn read_known(text: &[u8]) -> KnownRead
+    ensures { λ r. ⌜ r ≡ readKnown (now (text .entry)) ⌝ }
+{
+    known_line(&text[..line_end(text)])
 }

@@ -6,8 +6,9 @@ ghost use lib.Dec.{eqb};
 ghost use lib.ListN.{length, getD};
 ghost use Rattle.laws.specs.Tests.{every, least};
 ghost use Rattle.laws.specs.Lists.{putsAt};
-ghost use Rattle.call_text.specs.Words.{begins, isDigit, decimal, isNumber, hexDigit, isHex, hexByte, isBytes};
+ghost use Rattle.call_text.specs.Words.{begins, isDigit, decimal, isNumber, hexDigit, isHex, hexWord, isHexWord, hexByte, isBytes};
 use numbers::byte_at;
+use numbers::wide;
 
 // The place of the first byte that is x, the length where there is none.
 pub fn byte_in(text: &[u8], x: u8) -> usize
@@ -124,6 +125,28 @@ pub fn is_bytes(text: &[u8]) -> bool
     let n = text.len();
     let none = (n == 1) & (byte_at(text, 0) == 45);
     none | ((1 <= n) & (n <= 131071) & (n % 2 == 0) & all_hex(text))
+}
+
+// One to four digits in base 16.
+pub fn is_hex_word(text: &[u8]) -> bool
+    ensures { λ r. ⌜ r ≡ isHexWord (now (text .entry)) ⌝ }
+{
+    let n = text.len();
+    (1 <= n) & (n <= 4) & all_hex(text)
+}
+
+// The number that one to four digits in base 16 are.
+pub fn hex_word(text: &[u8]) -> usize
+    requires { ⌜ isHexWord (now text) ≡ true ⌝ }
+    ensures { λ r. ⌜ (r ≡ hexWord (now (text .entry))) × (r < 65536) ⌝ }
+{
+    let mut value = 0;
+    let mut i = 0;
+    while i < text.len() {
+        value = 16 * value + wide(hex_digit(byte_at(text, i)));
+        i += 1;
+    }
+    value
 }
 
 // The byte whose two digits stand at place i.

@@ -5,13 +5,14 @@ use mathlib.Core.Path.{_≡_, sym, _∙_, ap, ap₂}
 use mathlib.Core.List.{List, _++_}
 use Prim.Native.Nat.{ℕ, _+_, _<_}
 use native.Mathlib.Omega.{arith}
-use lib.ListN.{length, getD, take, drop, length-drop, List·getD-append}
+use lib.ListN.{length, getD, take, drop, replicate, length-drop, List·getD-append}
 use lib.Seq.{take-append-le, drop-append-le, drop-at}
 use Rattle.sheet_spec.specs.SameRecords.{SameRecords}
 use Rattle.cutting_spec.specs.Compile.{compile}
 use Rattle.cutting_spec.proofs.Promises.{compile-same}
-use Rattle.node_table.specs.Nodes.{emptyTable, wholeOutcome}
+use Rattle.node_table.specs.Nodes.{emptyTable, WholeOutcome, wholeOutcome}
 use Rattle.listing.specs.Split.{number, variables, orderOf, sheetOf, jobOf}
+use Rattle.listing.specs.Known.{evaluateWritten, evaluateInput}
 use Rattle.listing.proofs.LongInput.{long-input}
 
 -- input whose sheet is s, where the head holds the four numbers and an order of n + m bytes
@@ -53,3 +54,11 @@ module _ (head : List ℕ) (exact : length head ≡ 4 + variables head) (s z : L
       → wholeOutcome records rows (jobOf (take 4096 (head ++ s))) (sheetOf (take 4096 (head ++ s)))
       ≡ wholeOutcome records rows (jobOf (take 4096 (head ++ z))) (sheetOf (take 4096 (head ++ z)))
   read-same b c = long-input records rows (head ++ s) b ∙ input-same ∙ sym (long-input records rows (head ++ z) c)
+
+-- so are the outputs that are certain
+pub known-same : (head : List ℕ) → length head ≡ 4 + variables head → (s z : List ℕ) → SameRecords s z
+    → (known w : ℕ) → evaluateInput (head ++ s) known w ≡ evaluateInput (head ++ z) known w
+unfolding evaluateInput
+known-same head exact s z h known w =
+    ap₂ (λ (o : WholeOutcome) (t : ℕ). evaluateWritten o t known w) (input-same head exact s z h (replicate 80 0) (replicate 32768 0))
+    (variables-of head exact s ∙ sym (variables-of head exact z))

@@ -1,4 +1,4 @@
--- Input of more than 4,096 bytes: the first 4,096 decide what the compiler gives.
+-- Input of more than 4,096 bytes: the first 4,096 decide what the compiler gives, and which outputs are certain.
 -- Assumes nothing.
 use mathlib.Core.Path.{_≡_, refl, sym, _∙_, ap, ap₂}
 use mathlib.Core.Bool.{true, not, _||_, or-true}
@@ -7,15 +7,16 @@ use Prim.Native.Nat.{ℕ, _+_, _%_, _<_, _≤_}
 use native.Mathlib.Omega.{arith}
 use borrow.Author.Tests.{lt-ltb}
 use lib.Dec.{eqb}
-use lib.ListN.{length, getD, take, drop, take-append-drop, length-drop}
+use lib.ListN.{length, getD, take, drop, replicate, take-append-drop, length-drop}
 use lib.Seq.{length-take-le, take-all, take-append-le, drop-append-le, getD-take}
 use Rattle.laws.proofs.Cases.{by-less}
 use Rattle.sheet_spec.specs.Job.{Job}
 use Rattle.sheet_spec.specs.Refusals.{refuse3}
 use Rattle.cutting_spec.specs.Compile.{compile}
 use Rattle.cutting_spec.proofs.Promises.{unread-same}
-use Rattle.node_table.specs.Nodes.{emptyTable, wholeOutcome}
+use Rattle.node_table.specs.Nodes.{emptyTable, WholeOutcome, wholeOutcome}
 use Rattle.listing.specs.Split.{number, variables, orderOf, sheetOf, jobOf}
+use Rattle.listing.specs.Known.{evaluateWritten, evaluateInput}
 
 -- a sheet of more than 2,048 bytes is refused with 3, or with 1 or 2, whatever it holds
 too-long : (s : List ℕ) → 2048 < length s → refuse3 s ≡ true
@@ -80,3 +81,9 @@ long-input records rows input bytes =
     ap (λ (j : Job). wholeOutcome records rows j (sheetOf (take 4096 input))) (job-kept input bytes long)
     ∙ long-sheets records rows (jobOf input) (sheetOf (take 4096 input)) (sheetOf input) (first-long input bytes long) (sheet-long input bytes long))
     (λ h. ap (λ (x : List ℕ). wholeOutcome records rows (jobOf x) (sheetOf x)) (take-all 4096 input h))
+
+pub long-known : (input : List ℕ) → ((i : ℕ) → getD input i 0 < 256) → (known w : ℕ) → evaluateInput (take 4096 input) known w ≡ evaluateInput input known w
+unfolding evaluateInput
+long-known input bytes known w =
+    ap₂ (λ (o : WholeOutcome) (t : ℕ). evaluateWritten o t known w) (long-input (replicate 80 0) (replicate 32768 0) input bytes)
+    (by-less 4096 (length input) (variables-kept input bytes) (λ h. ap variables (take-all 4096 input h)))

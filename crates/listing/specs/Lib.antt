@@ -1,2 +1,3 @@
 -- What the functions of `listing` cite.
+pub mod Known
 pub mod Split

@@ -1,14 +1,19 @@
-// The listing: a job out of input bytes, and what program `cascade_list` prints of it.
+// The listing: a job out of input bytes, and what program `cascade_list` prints of it. Also the job's cascade evaluated.
 ghost use mathlib.Core.Path.{_≡_};
 ghost use Prim.Native.Nat.{_≤_, _<_, min};
-ghost use lib.ListN.{length};
+ghost use lib.ListN.{length, replicate};
+ghost use Rattle.evaluation.specs.Answer.{evaluationOf};
 ghost use Rattle.node_table.specs.Nodes.{wholeOutcomeOf, wholeOutcome};
+ghost use Rattle.listing.specs.Known.{evaluateInput};
 ghost use Rattle.listing.specs.Split.{number, jobOf, sheetOf};
 use cutting::Compilation;
+use evaluation::Evaluation;
 use libc::STDOUT_FILENO;
 use numbers::least;
 use numbers::wide;
+use numbers::wide16;
 use reduction_spec::Widths;
+use sheet_spec::MOST_OUTPUTS;
 use sheet_spec::MOST_VARIABLES;
 use stored_spec::MOST_RECORD_BYTES;
 use stored_spec::MOST_ROWS;
@@ -36,6 +41,37 @@ pub fn compile_input(input: &[u8], records: &mut [u8], rows: &mut [u8]) -> Compi
     let from = least(4, input.len());
     let to = least(4 + n + m, input.len());
     node_table::compile_whole(n, m, k, l, &input[from..to], &input[to..], records, rows)
+}
+
+fn record_memory() -> [u8; MOST_RECORD_BYTES]
+    ensures { λ r. ⌜ (80 ≡ length r) × (r ≡ replicate 80 0) ⌝ }
+{
+    [0u8; MOST_RECORD_BYTES]
+}
+
+fn row_memory() -> [u8; MOST_ROWS]
+    ensures { λ r. ⌜ (32768 ≡ length r) × (r ≡ replicate 32768 0) ⌝ }
+{
+    [0u8; MOST_ROWS]
+}
+
+// Which outputs of the input's job are certain where the inputs of the mask are known and are those of the word; nothing is where the job is refused.
+pub fn evaluate_input(input: &[u8], known: u16, word: u16) -> Evaluation
+    ensures { λ r. ⌜ r ≡ evaluationOf (evaluateInput (now (input .entry)) known word) ⌝ }
+{
+    let mut records = record_memory();
+    let mut rows = row_memory();
+    let compiled = compile_input(input, &mut records, &mut rows);
+    if compiled.refusal == 0 {
+        let t = number(input, 0) + number(input, 1);
+        let used = least(4 * t, MOST_RECORD_BYTES);
+        let filled = least(wide16(compiled.rows), MOST_ROWS);
+        return evaluation::evaluate(&records[..used], &rows[..filled], known, word);
+    }
+    Evaluation {
+        refusal: compiled.refusal,
+        outputs: [2; MOST_OUTPUTS],
+    }
 }
 
 fn print(x: usize) {
@@ -91,18 +127,6 @@ fn print_cells(cells: usize, records: &[u8], rows: &[u8]) {
         end_line();
         k += 1;
     }
-}
-
-fn record_memory() -> [u8; MOST_RECORD_BYTES]
-    ensures { λ r. ⌜ 80 ≡ length r ⌝ }
-{
-    [0u8; MOST_RECORD_BYTES]
-}
-
-fn row_memory() -> [u8; MOST_ROWS]
-    ensures { λ r. ⌜ 32768 ≡ length r ⌝ }
-{
-    [0u8; MOST_ROWS]
 }
 
 // Prints the listing of the job and sheet of the input, or "refused N".

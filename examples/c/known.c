@@ -1,0 +1,42 @@
+/* Compiles a job with the proved compiler and prints which of its outputs are certain where only some inputs are known, as when a
+ * sensor's cable is cut.
+ * Build: cc -O2 -I include examples/c/known.c target/staticlib/libpanel.a -o known
+ * Run:   ./known examples/basket.job 7fe 2ae */
+#include "job.h"
+
+#include <stdlib.h>
+
+int main(int argc, char **argv)
+{
+    uint8_t certain[CASCADE_OUTPUTS];
+    FILE *file;
+    if (argc != 4) {
+        fprintf(stderr, "known JOB KNOWN WORD (mask and word in base 16)\n");
+        return 2;
+    }
+    file = fopen(argv[1], "rb");
+    if (file == NULL) {
+        perror(argv[1]);
+        return 1;
+    }
+    cascade_totals made = compile(file);
+    fclose(file);
+    if (made.refusal != 0) {
+        printf("refused %u\n", (unsigned)made.refusal);
+        return 1;
+    }
+    uint16_t known = (uint16_t)strtoul(argv[2], NULL, 16);
+    uint16_t word = (uint16_t)strtoul(argv[3], NULL, 16);
+    uint8_t refusal = cascade_known(records, 4 * (inputs + outputs), rows, made.rows, known, word, certain);
+    if (refusal != 0) {
+        printf("refused %u\n", (unsigned)refusal);
+        return 1;
+    }
+    for (size_t o = 0; o < outputs; o++) {
+        if (certain[o] == CASCADE_UNKNOWN)
+            printf("y%u unknown\n", (unsigned)o + 1);
+        else
+            printf("y%u %u\n", (unsigned)o + 1, (unsigned)certain[o]);
+    }
+    return 0;
+}
