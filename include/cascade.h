@@ -119,6 +119,21 @@ cascade_reached cascade_descent(const uint16_t words[CASCADE_NODE_WORDS],
                                 uint8_t top, uint8_t bottom,
                                 uint16_t node, uint16_t inputs, uint8_t count);
 
+/* Which outputs of a stored cascade are certain where only some inputs are known, as when a sensor's cable is cut. records and
+ * rows are those of one cascade, as cascade_compile writes them or as a fitter patched them, with no byte more. Bit i of known
+ * says that input i is known, and bit i of word is then its value; bits of unknown inputs in word, bits above 11 and inputs that
+ * the cascade lacks have no effect. Answers 0, and outputs[o] is 0 or 1 where every filling of the unknown inputs makes the
+ * cascade emit that value, else CASCADE_UNKNOWN, which an output that the cascade lacks always is; or 12 where the cascade is
+ * not well formed, and then outputs are as they were. Learning one more input never turns a 0 or 1 into anything else. Stack:
+ * CASCADE_KNOWN_STACK bytes are enough. */
+#define CASCADE_OUTPUTS 8
+#define CASCADE_UNKNOWN 2
+#define CASCADE_KNOWN_STACK 4096
+uint8_t cascade_known(const uint8_t *records, size_t records_length,
+                      const uint8_t *rows, size_t rows_length,
+                      uint16_t known, uint16_t word,
+                      uint8_t outputs[CASCADE_OUTPUTS]);
+
 /* The bank holds up to 8 blocks (a block is the records and rows of one cascade), and the scan state says how far a scan
  * has come and which outputs are set. Both are bytes that the caller keeps and lends to each call, with the row memory;
  * nobody else may write them between calls. Whatever they hold, a call reads and writes nothing but what it is lent: every

@@ -58,6 +58,13 @@ static void *step(void *unused)
     return unused;
 }
 
+static void *evaluate(void *unused)
+{
+    static uint8_t outputs[CASCADE_OUTPUTS];
+    refusal = cascade_known(records, 4 * variables(), rows, made_rows, 0, 0, outputs);
+    return unused;
+}
+
 static void *tabulate(void *unused)
 {
     static uint8_t table[CASCADE_TABLE_BYTES];

@@ -154,12 +154,23 @@ mod exported {
             rows: *const u8,
             rows_length: usize,
         ) -> super::StepNumbers;
+        pub fn cascade_known(
+            records: *const u8,
+            records_length: usize,
+            rows: *const u8,
+            rows_length: usize,
+            known: u16,
+            word: u16,
+            outputs: *mut [u8; 8],
+        ) -> u8;
     }
 }
 
+mod known;
 mod state;
 mod walks;
 
+pub use known::known;
 pub use state::{bank_bytes, scan_bytes, State};
 pub use walks::{compatible_columns, descent, same_columns, walk};
 
