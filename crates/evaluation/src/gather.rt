@@ -1,6 +1,6 @@
 // The rows of a cell that may be read: those whose address agrees with the known inputs and a rail word of the set above the cell, each once.
 ghost use mathlib.Core.Path.{_≡_};
-ghost use mathlib.Core.Bool.{true, cond};
+ghost use mathlib.Core.Bool.{true, false, cond};
 ghost use mathlib.Core.List.{List};
 ghost use Prim.Native.Nat.{ℕ, _≤_, _<_, _+_, _*_, _^_};
 ghost use lib.Bits.{bitAnd};
@@ -174,23 +174,12 @@ fn read_one(rows: &[u8], p: Addresses, first: usize, seen: Seen, next: &mut Rail
     read_rail(rows, first, p.mask, p.free, p.count, p.low, seen, next)
 }
 
-// The rows of a rail word that is in the set.
-fn read_if(
-    here: bool,
-    rows: &[u8],
-    p: Addresses,
-    base: usize,
-    seen: Seen,
-    next: &mut RailSet,
-) -> Seen
-    requires { ⌜ (here ≡ true → base + (p .value + p .free) < length (now rows)) × Whole (p .mask) (p .free) ⌝ }
-    ensures { λ r. ⌜ gatheredOf r (now (next .exit))
-        ≡ cond here (ofRail (now (rows .entry)) p base (gatheredOf seen (now (next .entry)))) (gatheredOf seen (now (next .entry))) ⌝ }
+// The lowest bit that is 1.
+fn lowest(word: u64) -> usize
+    requires { ⌜ (word ≡ 0 → ⊥) ⌝ }
+    ensures { λ r. ⌜ (r < 64) × ((i : ℕ) → i < r → has word i ≡ false) × (has word r ≡ true) ⌝ }
 {
-    if here {
-        return read_one(rows, p, base + p.value, seen, next);
-    }
-    seen
+    u64::trailing_zeros(word) as usize
 }
 
 // The rows of the rail words in one word of the set, the first of which has its rows from base on.
@@ -208,13 +197,13 @@ fn read_word(
 {
     let mut g = seen;
     let mut rest = word;
-    let mut at = base;
     let mut b = 0usize;
     while rest != 0 {
-        g = read_if(rest % 2 == 1, rows, p, at, g, next);
-        rest = rest / 2;
-        at += p.block;
-        b += 1;
+        let skipped = lowest(rest);
+        let rail = b + skipped;
+        g = read_one(rows, p, base + rail * p.block + p.value, g, next);
+        rest = (rest >> skipped) / 2;
+        b = rail + 1;
     }
     g
 }

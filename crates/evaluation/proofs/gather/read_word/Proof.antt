@@ -1,73 +1,119 @@
 -- `evaluation::gather::read_word` reads the rows of the rail words in one word of the set.
 -- Assumes nothing.
 use mathlib.Core.Path.{_≡_, refl, sym, _∙_, ap}
-use Prim.Native.Nat.{ℕ, _+_, _-_, _*_, _/_, _%_, _^_, _≤_}
+use Prim.Native.Nat.{ℕ, _+_, _-_, _*_, _/_, _^_, _≤_, _<_}
 use native.Mathlib.Nat.{div-one, mul-le-mul-right}
 use native.Mathlib.Omega.{arith}
-use lib.Dec.{eqb}
 use Rattle.laws.specs.Turns.{inTurn}
-use Rattle.evaluation.specs.Agreeing.{gatheredOf, ofBit}
-use Rattle.evaluation.proofs.gather.SetWords.{bit-left, left-next, word-next, word-ends}
+use Rattle.evaluation.specs.Agreeing.{gatheredOf, ofRail, ofBit}
+use Rattle.evaluation.proofs.gather.Parts.{whole-small}
+use Rattle.evaluation.proofs.gather.SetWords.{rest-bit, bit-left, left-next, word-next, word-ends}
 use borrow.Author.Needs.{needs}
 use Rattle.evaluation.proofs.gather.read_word.Statement.{statement}
 use Rattle.evaluation.proofs.gather.read_word.Tie as tie
 
 abbrev Inv-loop : tie.InvT-loop
-Inv-loop rows p base word next₀ g₀ rest₀ at₀ b₀ next g rest at b =
-    (b ≤ 64) × (rest ≡ word / 2 ^ b) × (at ≡ base + b * p .block) × (gatheredOf g next ≡ inTurn b (ofBit rows p word base) (gatheredOf g₀ next₀))
+Inv-loop rows p base word next₀ g₀ rest₀ b₀ next g rest b = 
+    (b ≤ 64) × (rest ≡ word / 2 ^ b) × (gatheredOf g next ≡ inTurn b (ofBit rows p word base) (gatheredOf g₀ next₀))
 
 abbrev μ-loop : tie.MeasureT-loop
-μ-loop rows p base word next₀ g₀ rest₀ at₀ b₀ next g rest at b = 64 - b
+μ-loop rows p base word next₀ g₀ rest₀ b₀ next g rest b = 64 - b
 
 loop-holds : tie.Need-loop-holds Inv-loop μ-loop
-loop-holds c = (omega arith, sym (div-one (c .before .args .word)), omega arith, refl)
+loop-holds c = (omega arith, sym (div-one (c .before .args .word)), refl)
 
-read-if-requires : tie.Need-read-if-requires Inv-loop μ-loop
-read-if-requires c κs =
+lowest-requires : tie.Need-lowest-requires Inv-loop μ-loop
+lowest-requires c κs = c .loop-test .taken
+
+add-rail : tie.Need-add-rail Inv-loop μ-loop
+add-rail c =
     let a = c .before .before .before .before .args in
     let pre = c .before .before .before .before .pre in
     let l = c .before .before .loop in
-    let some = c .before .loop-test .taken in
-    let within = bit-left (a .word) (l .b) (c .before .before .before .before .fits .word .fits) (l .inv .1) some in
-    (λ h. omega (arith, pre .0 (l .b) within (sym (ap (λ (y : ℕ). eqb (y % 2) 1) (l .inv .1)) ∙ h), l .inv .2), pre .1)
+    let z = c .lowest in
+    let within = bit-left (a .word) (l .b) (l .inv .1) (c .before .before .before .before .fits .word .fits) (z .result) (z .ensures .2) in
+    omega (arith, within)
 
-add-at : tie.Need-add-at Inv-loop μ-loop
-add-at c =
+mul-read-one : tie.Need-mul-read-one Inv-loop μ-loop
+mul-read-one c =
+    let a = c .before .before .before .before .before .args in
+    let pre = c .before .before .before .before .before .pre in
+    let l = c .before .before .before .loop in
+    let z = c .before .lowest in
+    let within = bit-left (a .word) (l .b) (l .inv .1) (c .before .before .before .before .before .fits .word .fits) (z .result) (z .ensures .2) in
+    let h = mul-le-mul-right {m = l .b + z .result} {n = 64} (a .p .block) (omega (arith, within)) in
+    omega (arith, h, pre .3)
+
+add-read-one : tie.Need-add-read-one Inv-loop μ-loop
+add-read-one c =
+    let a = c .before .before .before .before .before .args in
+    let pre = c .before .before .before .before .before .pre in
+    let l = c .before .before .before .loop in
+    let z = c .before .lowest in
+    let within = bit-left (a .word) (l .b) (l .inv .1) (c .before .before .before .before .before .fits .word .fits) (z .result) (z .ensures .2) in
+    let h = mul-le-mul-right {m = l .b + z .result} {n = 64} (a .p .block) (omega (arith, within)) in
+    omega (arith, h, pre .2, pre .3)
+
+add-read-one-2 : tie.Need-add-read-one-2 Inv-loop μ-loop
+add-read-one-2 c =
     let a = c .before .before .before .before .before .before .args in
     let pre = c .before .before .before .before .before .before .pre in
     let l = c .before .before .before .before .loop in
-    let h = mul-le-mul-right (a .p .block) (l .inv .0) in
-    omega (arith, l .inv .2, pre .2, pre .3, h)
+    let z = c .before .before .lowest in
+    let within = bit-left (a .word) (l .b) (l .inv .1) (c .before .before .before .before .before .before .fits .word .fits) (z .result) (z .ensures .2) in
+    let fits = pre .0 (l .b + z .result) within (sym (rest-bit (a .word) (l .b) (l .inv .1) (z .result)) ∙ z .ensures .2) in
+    let h = mul-le-mul-right {m = l .b + z .result} {n = 64} (a .p .block) (omega (arith, within)) in
+    omega (arith, h, pre .2, pre .3, fits)
+
+read-one-requires : tie.Need-read-one-requires Inv-loop μ-loop
+read-one-requires c κs =
+    let a = c .before .before .before .before .before .before .before .args in
+    let pre = c .before .before .before .before .before .before .before .pre in
+    let l = c .before .before .before .before .before .loop in
+    let z = c .before .before .before .lowest in
+    let within = bit-left (a .word) (l .b) (l .inv .1) (c .before .before .before .before .before .before .before .fits .word .fits) (z .result) (z .ensures .2) in
+    let fits = pre .0 (l .b + z .result) within (sym (rest-bit (a .word) (l .b) (l .inv .1) (z .result)) ∙ z .ensures .2) in
+    (omega (arith, fits), pre .1)
+
+shr-rest : tie.Need-shr-rest Inv-loop μ-loop
+shr-rest c = c .before .before .before .before .lowest .ensures .0
 
 add-b : tie.Need-add-b Inv-loop μ-loop
-add-b c = omega (arith, c .before .before .before .before .loop .inv .0)
+add-b c =
+    let a = c .before .before .before .before .before .before .before .before .args in
+    let pre = c .before .before .before .before .before .before .before .before .pre in
+    let l = c .before .before .before .before .before .before .loop in
+    let z = c .before .before .before .before .lowest in
+    let within = bit-left (a .word) (l .b) (l .inv .1) (c .before .before .before .before .before .before .before .before .fits .word .fits) (z .result) (z .ensures .2) in
+    omega (arith, within)
 
 loop-less : tie.Need-loop-less Inv-loop μ-loop
 loop-less c =
-    let a = c .before .before .before .before .before .before .args in
-    let l = c .before .before .before .before .loop in
-    let some = c .before .before .before .loop-test .taken in
-    let within = bit-left (a .word) (l .b) (c .before .before .before .before .before .before .fits .word .fits) (l .inv .1) some in
+    let a = c .before .before .before .before .before .before .before .before .args in
+    let pre = c .before .before .before .before .before .before .before .before .pre in
+    let l = c .before .before .before .before .before .before .loop in
+    let z = c .before .before .before .before .lowest in
+    let within = bit-left (a .word) (l .b) (l .inv .1) (c .before .before .before .before .before .before .before .before .fits .word .fits) (z .result) (z .ensures .2) in
     omega (arith, within)
 
 loop-again : tie.Need-loop-again Inv-loop μ-loop
+unfolding ofRail
 loop-again c =
-    let a = c .before .before .before .before .before .before .args in
-    let l = c .before .before .before .before .loop in
-    let some = c .before .before .before .loop-test .taken in
-    let within = bit-left (a .word) (l .b) (c .before .before .before .before .before .before .fits .word .fits) (l .inv .1) some in (
+    let a = c .before .before .before .before .before .before .before .before .args in
+    let pre = c .before .before .before .before .before .before .before .before .pre in
+    let l = c .before .before .before .before .before .before .loop in
+    let z = c .before .before .before .before .lowest in
+    let within = bit-left (a .word) (l .b) (l .inv .1) (c .before .before .before .before .before .before .before .before .fits .word .fits) (z .result) (z .ensures .2) in (
       omega (arith, within),
-      left-next (a .word) (l .b) (l .inv .1),
-      omega (arith, l .inv .2),
-      word-next (a .rows .now) (a .p) (a .word) (a .base) (gatheredOf (a .seen) (a .next .now)) (l .b) (l .inv .1) (l .inv .2) (l .inv .3) (c .before .read-if .ensures),
+      left-next (a .word) (l .b) (l .inv .1) (z .result),
+      word-next (a .rows .now) (a .p) (a .word) (a .base) (gatheredOf (a .seen) (a .next .now)) (l .b) (z .result) (l .inv .1) (z .ensures .1) (z .ensures .2) refl (l .inv .2) (c .read-one .ensures),
     )
 
 returns : tie.Need-returns Inv-loop μ-loop
 returns c =
     let a = c .before .before .before .args in
     let l = c .before .loop in
-    word-ends (a .rows .now) (a .p) (a .word) (a .base) (gatheredOf (a .seen) (a .next .now)) (l .b) (l .inv .0) (l .inv .1)
-    (c .loop-test .left) (l .inv .3)
+    word-ends (a .rows .now) (a .p) (a .word) (a .base) (gatheredOf (a .seen) (a .next .now)) (l .b) (l .inv .0) (l .inv .1) (c .loop-test .left) (l .inv .2)
 
 pub read-word-spec : {M : Type 1} → statement M
 read-word-spec =
@@ -76,8 +122,13 @@ read-word-spec =
     Inv-loop
     μ-loop
     loop-holds
-    read-if-requires
-    add-at
+    lowest-requires
+    add-rail
+    mul-read-one
+    add-read-one
+    add-read-one-2
+    read-one-requires
+    shr-rest
     add-b
     loop-less
     loop-again
