@@ -29,9 +29,9 @@ partOf mask free (suc j) = bitAnd (partOf mask free j + mask + 1) free
 unfoldable pub railRow : List ℕ → ℕ → ℕ → ℕ → ℕ → ℕ → Gathered → Gathered
 railRow bytes first mask free low j = let x = getD bytes (first + partOf mask free j) 0 in withRow x (bitAnd x low)
 
--- the row at place j from first on, with no lower rails
-unfoldable pub plainRow : List ℕ → ℕ → ℕ → Gathered → Gathered
-plainRow bytes first j = withRow (getD bytes (first + j) 0) 0
+-- the row at place j from first on
+unfoldable pub plainRow : List ℕ → ℕ → ℕ → ℕ → Gathered → Gathered
+plainRow bytes first low j = let x = getD bytes (first + j) 0 in withRow x (bitAnd x low)
 
 -- mask and free are together all bits of some number of inputs
 pub record Whole (mask free : ℕ) : Type 0 where

@@ -111,39 +111,77 @@ fn next_cell(c: Begun, from: usize, rail: usize) -> Begun
     }
 }
 
-// Stores the bit e - 1 of the row at the output of the variable v, and answers e - 1; nothing and e where v is an input.
-fn store_bit(v: usize, row: usize, e: usize, outputs: &mut [u8; MOST_OUTPUTS]) -> usize
+// Stores bit e - 1 of two rows at the output of the variable v, and answers e - 1; nothing and e where v is an input.
+fn store_bits(
+    v: usize,
+    x: usize,
+    y: usize,
+    e: usize,
+    some: &mut [u8; MOST_OUTPUTS],
+    each: &mut [u8; MOST_OUTPUTS],
+) -> usize
     requires { ⌜ (128 ≤ v → (1 ≤ e) × (v < 136)) × (e ≤ 16) ⌝ }
     ensures { λ r. ⌜ (r ≡ cond (ltb v 128) e (e - 1))
-        × (now (outputs .exit) ≡ cond (ltb v 128) (now (outputs .entry)) (set (now (outputs .entry)) (v - 128) (bit row (e - 1)))) ⌝ }
+        × (now (some .exit) ≡ cond (ltb v 128) (now (some .entry)) (set (now (some .entry)) (v - 128) (bit x (e - 1))))
+        × (now (each .exit) ≡ cond (ltb v 128) (now (each .entry)) (set (now (each .entry)) (v - 128) (bit y (e - 1)))) ⌝ }
 {
     if v < 128 {
         return e;
     }
-    outputs[v - 128] = ((row >> (e - 1)) % 2) as u8;
+    some[v - 128] = ((x >> (e - 1)) % 2) as u8;
+    each[v - 128] = ((y >> (e - 1)) % 2) as u8;
     e - 1
 }
 
-// Sets the outputs of the cell whose records are from to last to their bits of the row, the topmost to bit first - 1.
+// Sets the outputs of the cell whose records are from to last to their bits of two rows, the topmost to bit first - 1.
 fn set_bits(
     records: &[u8],
     from: usize,
     last: usize,
     first: usize,
-    row: usize,
-    outputs: &mut [u8; MOST_OUTPUTS],
+    x: usize,
+    y: usize,
+    some: &mut [u8; MOST_OUTPUTS],
+    each: &mut [u8; MOST_OUTPUTS],
 )
     requires { ⌜ (recordsFormed (now records) ≡ true) × (last < recordCount (now records)) × (cutByte (now records) last ≡ 1)
         × (from ≡ startOf (now records) last)
         × (first ≡ length (cellAt (now records) (endedBy (now records) last) .outs) + cellAt (now records) (endedBy (now records) last) .lower) ⌝ }
-    ensures { λ _. ⌜ now (outputs .exit) ≡ outputsAfter (cellAt (now (records .entry)) (endedBy (now (records .entry)) last)) (now (outputs .entry)) row ⌝ }
+    ensures { λ _. ⌜ (now (some .exit) ≡ outputsAfter (cellAt (now (records .entry)) (endedBy (now (records .entry)) last)) (now (some .entry)) x)
+        × (now (each .exit) ≡ outputsAfter (cellAt (now (records .entry)) (endedBy (now (records .entry)) last)) (now (each .entry)) y) ⌝ }
 {
     let mut e = first;
     let mut i = from;
     while i <= last {
-        e = store_bit(wide(records[i * 4]), row, e, outputs);
+        e = store_bits(wide(records[i * 4]), x, y, e, some, each);
         i += 1;
     }
+}
+
+// The same; a cell without outputs needs no look at its records.
+fn set_outputs(
+    records: &[u8],
+    from: usize,
+    last: usize,
+    outs: usize,
+    rail: usize,
+    x: usize,
+    y: usize,
+    some: &mut [u8; MOST_OUTPUTS],
+    each: &mut [u8; MOST_OUTPUTS],
+)
+    requires { ⌜ (recordsFormed (now records) ≡ true) × (last < recordCount (now records)) × (cutByte (now records) last ≡ 1)
+        × (from ≡ startOf (now records) last)
+        × (outs ≡ length (cellAt (now records) (endedBy (now records) last) .outs))
+        × (rail ≡ cellAt (now records) (endedBy (now records) last) .lower)
+        × (outs + rail ≤ 8) ⌝ }
+    ensures { λ _. ⌜ (now (some .exit) ≡ outputsAfter (cellAt (now (records .entry)) (endedBy (now (records .entry)) last)) (now (some .entry)) x)
+        × (now (each .exit) ≡ outputsAfter (cellAt (now (records .entry)) (endedBy (now (records .entry)) last)) (now (each .entry)) y) ⌝ }
+{
+    if outs == 0 {
+        return;
+    }
+    set_bits(records, from, last, outs + rail, x, y, some, each);
 }
 
 // Ends the cell c with the cut below record i: reads the rows that may be read and sets its outputs.
@@ -170,8 +208,17 @@ fn end_cell(
 {
     let rail = wide(records[i * 4 + 2]);
     let seen = read_cell(rows, addresses(c, rail), set);
-    set_bits(records, c.from, i, c.outs + rail, wide(seen.some), some);
-    set_bits(records, c.from, i, c.outs + rail, wide(seen.each), each);
+    set_outputs(
+        records,
+        c.from,
+        i,
+        c.outs,
+        rail,
+        wide(seen.some),
+        wide(seen.each),
+        some,
+        each,
+    );
     next_cell(c, i + 1, rail)
 }
 

@@ -117,11 +117,29 @@ fn read_few(
     Few { some, each, rails }
 }
 
-// The same where no input is known and there are no rails below: the rows stand one after another. The loop touches bytes alone, so that it runs
-// sixteen at a time.
+// The same where besides no input is known: the rows stand one after another.
+fn read_run(rows: &[u8], first: usize, count: usize, low: usize, seen: Seen) -> Few
+    requires { ⌜ (first + count ≤ length (now rows)) × (low < 64) ⌝ }
+    ensures { λ r. ⌜ ((s : List ℕ) → fewOf r s ≡ inTurn count (plainRow (now (rows .entry)) first low) (gatheredOf seen s)) ⌝ }
+{
+    let mut some = seen.some;
+    let mut each = seen.each;
+    let mut rails = 0u64;
+    let mut j = 0;
+    while j < count {
+        let x = rows[first + j];
+        some = some | x;
+        each = each & x;
+        rails = rails | (1 << (wide(x) & low));
+        j += 1;
+    }
+    Few { some, each, rails }
+}
+
+// The same where besides no rails lie below. The loop touches bytes alone, so that it runs sixteen at a time.
 fn read_all(rows: &[u8], first: usize, count: usize, seen: Seen) -> Few
     requires { ⌜ (first + count ≤ length (now rows)) × (1 ≤ count) ⌝ }
-    ensures { λ r. ⌜ ((s : List ℕ) → fewOf r s ≡ inTurn count (plainRow (now (rows .entry)) first) (gatheredOf seen s)) ⌝ }
+    ensures { λ r. ⌜ ((s : List ℕ) → fewOf r s ≡ inTurn count (plainRow (now (rows .entry)) first 0) (gatheredOf seen s)) ⌝ }
 {
     let mut some = seen.some;
     let mut each = seen.each;
@@ -151,8 +169,11 @@ fn read_either(
     requires { ⌜ (first + free < length (now rows)) × Whole mask free × (low < 64) ⌝ }
     ensures { λ r. ⌜ ((s : List ℕ) → fewOf r s ≡ inTurn count (railRow (now (rows .entry)) first mask free low) (gatheredOf seen s)) ⌝ }
 {
-    if (mask == 0) & (low == 0) & (count == free + 1) & (15 < count) {
-        return read_all(rows, first, count, seen);
+    if (mask == 0) & (count == free + 1) {
+        if (low == 0) & (15 < count) {
+            return read_all(rows, first, count, seen);
+        }
+        return read_run(rows, first, count, low, seen);
     }
     read_few(rows, first, mask, free, count, low, seen)
 }

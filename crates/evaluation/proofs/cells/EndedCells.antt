@@ -162,6 +162,3 @@ module _ (R bytes : List ℕ) (known w i : ℕ) (formed : wellFormed R bytes ≡
       pub ended-gathered : {g : Gathered} → g ≡ ofSet bytes q s (q .words) noneRead → g ≡ gathered known w R bytes k (railSet known w R bytes k)
       ended-gathered f =
           f ∙ ap (λ (x : Addresses). ofSet bytes x s (x .words) noneRead) q-is ∙ ap (λ (l : List ℕ). ofSet bytes p l (p .words) noneRead) e ∙ gathers
-
-      pub ended-first : c .outs + rail ≡ length (cellAt R (endedBy R i) .outs) + cellAt R (endedBy R i) .lower
-      ended-first = omega (arith, h .outs, r, h .lower)

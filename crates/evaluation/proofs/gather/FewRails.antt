@@ -42,30 +42,44 @@ few-more : (some each rails x r : ℕ) (s : List ℕ) → r < 64
 unfolding withRow
 few-more some each rails x r s l = ap (λ (n : List ℕ). record { some = bitOr some x; each = bitAnd each x; next = n }) (more-rails s rails r l)
 
--- one row more
+-- one row more, with the rail word that the code makes of it
+module _ (some each rails x y low : ℕ) (s : List ℕ) (is : y ≡ x) (l : bitAnd y low < 64) where
+  with-shifted : fewAs (bitOr some x) (bitAnd each x) (bitOr rails (1 * 2 ^ bitAnd y low % 18446744073709551616)) s
+      ≡ withRow x (bitAnd x low) (fewAs some each rails s)
+  with-shifted =
+      let shifted = shl-exact {a = 1} 1 (bitAnd y low) 64 (omega arith) (omega (arith, l)) ∙ one-mul (2 ^ bitAnd y low) in
+      ap (λ (b : ℕ). fewAs (bitOr some x) (bitAnd each x) (bitOr rails b) s) shifted ∙ few-more some each rails x (bitAnd y low) s l
+      ∙ ap (λ (b : ℕ). withRow x (bitAnd b low) (fewAs some each rails s)) is
+
 pub few-next : (bytes : List ℕ) (first mask free low j : ℕ) (g : Gathered) (s : List ℕ) (rails : ℕ) {some each p y : ℕ} → p ≡ partOf mask free j
     → y ≡ getD bytes (first + p) 0 → bitAnd y low < 64 → fewAs some each rails s ≡ inTurn j (railRow bytes first mask free low) g
     → fewAs (bitOr some (getD bytes (first + p) 0)) (bitAnd each (getD bytes (first + p) 0)) (bitOr rails (1 * 2 ^ bitAnd y low % 18446744073709551616)) s
     ≡ inTurn (j + 1) (railRow bytes first mask free low) g
 few-next bytes first mask free low j g s rails {some} {each} {p} {y} at is l e =
-    let x = getD bytes (first + p) 0 in
-    let shifted = shl-exact {a = 1} 1 (bitAnd y low) 64 (omega arith) (omega (arith, l)) ∙ one-mul (2 ^ bitAnd y low) in
-    row-next bytes first mask free low j g at e
-    (ap (λ (b : ℕ). fewAs (bitOr some x) (bitAnd each x) (bitOr rails b) s) shifted ∙ few-more some each rails x (bitAnd y low) s l
-    ∙ ap (λ (b : ℕ). withRow x (bitAnd b low) (fewAs some each rails s)) is)
+    row-next bytes first mask free low j g at e (with-shifted some each rails (getD bytes (first + p) 0) y low s is l)
 
--- rows one after another, with no rails below: the rail word is 0
+-- rows one after another
+pub run-next : (bytes : List ℕ) (first low j : ℕ) (g : Gathered) (s : List ℕ) (rails : ℕ) {some each y : ℕ} → y ≡ getD bytes (first + j) 0 → bitAnd y low < 64
+    → fewAs some each rails s ≡ inTurn j (plainRow bytes first low) g
+    → fewAs (bitOr some (getD bytes (first + j) 0)) (bitAnd each (getD bytes (first + j) 0)) (bitOr rails (1 * 2 ^ bitAnd y low % 18446744073709551616)) s
+    ≡ inTurn (j + 1) (plainRow bytes first low) g
+unfolding plainRow
+run-next bytes first low j g s rails {some} {each} {y} is l e =
+    with-shifted some each rails (getD bytes (first + j) 0) y low s is l ∙ ap (plainRow bytes first low j) e ∙ sym (turns-next (plainRow bytes first low) j g)
+
+-- with no rails below the rail word is 0
 unfoldable pub oneRail : ℕ → ℕ
 oneRail zero = 0
 oneRail (suc j) = 1
 
-pub plain-next : (bytes : List ℕ) (first j : ℕ) (g : Gathered) (s : List ℕ) {some each : ℕ} → fewAs some each (oneRail j) s ≡ inTurn j (plainRow bytes first) g
-    → fewAs (bitOr some (getD bytes (first + j) 0)) (bitAnd each (getD bytes (first + j) 0)) (oneRail (j + 1)) s ≡ inTurn (j + 1) (plainRow bytes first) g
+pub plain-next : (bytes : List ℕ) (first j : ℕ) (g : Gathered) (s : List ℕ) {some each : ℕ} → fewAs some each (oneRail j) s ≡ inTurn j (plainRow bytes first 0) g
+    → fewAs (bitOr some (getD bytes (first + j) 0)) (bitAnd each (getD bytes (first + j) 0)) (oneRail (j + 1)) s ≡ inTurn (j + 1) (plainRow bytes first 0) g
 unfolding oneRail plainRow
 plain-next bytes first j g s {some} {each} e =
     let x = getD bytes (first + j) 0 in
     ap (λ (b : ℕ). fewAs (bitOr some x) (bitAnd each x) b s) (ap oneRail (add-one j) ∙ one j) ∙ few-more some each (oneRail j) x 0 s (omega arith)
-    ∙ ap (withRow x 0) e ∙ sym (turns-next (plainRow bytes first) j g)
+    ∙ ap (λ (r : ℕ). withRow x r (fewAs some each (oneRail j) s)) (sym (and-zero-r x))
+    ∙ ap (plainRow bytes first 0 j) e ∙ sym (turns-next (plainRow bytes first 0) j g)
   where
     one : (i : ℕ) → 1 ≡ bitOr (oneRail i) 1
     one zero = refl
@@ -86,13 +100,12 @@ part-plain free n e (suc j) l =
     ap (λ (x : ℕ). bitAnd (x + 0 + 1) free) (part-plain free n e j (omega arith)) ∙ ap₂ bitAnd a m ∙ and-mask (suc j) n
     ∙ mod-eq-of-lt (omega (arith, e, l))
 
-pub plain-rows : (bytes : List ℕ) (first mask free count low : ℕ) (g : Gathered) → Whole mask free → mask ≡ 0 → low ≡ 0 → count ≡ free + 1
-    → inTurn count (plainRow bytes first) g ≡ inTurn count (railRow bytes first mask free low) g
+pub plain-rows : (bytes : List ℕ) (first mask free count low : ℕ) (g : Gathered) → Whole mask free → mask ≡ 0 → count ≡ free + 1
+    → inTurn count (plainRow bytes first low) g ≡ inTurn count (railRow bytes first mask free low) g
 unfolding plainRow railRow
-plain-rows bytes first mask free count low g whole m z c =
-    turns-ext (plainRow bytes first) (railRow bytes first mask free low) count
+plain-rows bytes first mask free count low g whole m c =
+    turns-ext (plainRow bytes first low) (railRow bytes first mask free low) count
     (λ j l t.
     let e : free + 1 ≡ 2 ^ whole .inputs = omega (arith, m, whole .all) in
     let p : j ≡ partOf mask free j = sym (ap (λ (x : ℕ). partOf x free j) m ∙ part-plain free (whole .inputs) e j (omega (arith, l, c))) in
-    let x = getD bytes (first + j) 0 in
-    ap (λ (r : ℕ). withRow x r t) (sym (ap (bitAnd x) z ∙ and-zero-r x)) ∙ ap (λ (y : ℕ). withRow (getD bytes (first + y) 0) (bitAnd (getD bytes (first + y) 0) low) t) p) g
+    ap (λ (y : ℕ). withRow (getD bytes (first + y) 0) (bitAnd (getD bytes (first + y) 0) low) t) p) g

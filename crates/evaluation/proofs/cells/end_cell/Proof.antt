@@ -11,7 +11,7 @@ use Rattle.stored_spec.proofs.StoredParts.{records-have}
 use Rattle.evaluation_spec.specs.RailSets.{Gathered, railSet, someOuts, eachOuts}
 use Rattle.evaluation.specs.BegunCell.{Begun, endedBy, nextCell}
 use Rattle.evaluation.proofs.cells.BegunCells.{begun-cut}
-use Rattle.evaluation.proofs.cells.EndedCells.{ended, mask-lt, ended-readable, ended-gathered, ended-first}
+use Rattle.evaluation.proofs.cells.EndedCells.{ended, mask-lt, ended-readable, ended-gathered}
 use borrow.Author.Needs.{needs}
 use Rattle.evaluation.proofs.cells.end_cell.Statement.{statement}
 use Rattle.evaluation.proofs.cells.end_cell.Tie as tie
@@ -59,56 +59,33 @@ read-cell-requires c κs =
     let h = ended R (now (a .rows)) (a .known) (a .word) (a .i) (pre .0) (pre .1) (pre .2) (a .c) (pre .3) in
     ended-readable R (now (a .rows)) (a .known) (a .word) (a .i) (pre .0) (pre .1) (pre .2) (a .c) h (pre .4) (c .before .before .wide .ensures .0) (c .before .addresses .ensures)
 
-add-set-bits : tie.Need-add-set-bits
-add-set-bits c =
-    let a = c .before .before .before .before .before .before .before .before .args in
-    let pre = c .before .before .before .before .before .before .before .before .pre in
-    let R = now (a .records) in
-    let h = ended R (now (a .rows)) (a .known) (a .word) (a .i) (pre .0) (pre .1) (pre .2) (a .c) (pre .3) in
-    omega (arith, c .before .before .before .before .wide .ensures .0, h .few-out)
-
 wide-requires-2 : tie.Need-wide-requires-2
 wide-requires-2 c κs = search needs
-
-set-bits-requires : tie.Need-set-bits-requires
-set-bits-requires c κs =
-    let a = c .before .before .before .before .before .before .before .before .before .before .args in
-    let pre = c .before .before .before .before .before .before .before .before .before .before .pre in
-    let R = now (a .records) in
-    let h = ended R (now (a .rows)) (a .known) (a .word) (a .i) (pre .0) (pre .1) (pre .2) (a .c) (pre .3) in
-    (formed-records R (now (a .rows)) (pre .0), pre .1, pre .2, h .from, ended-first R (now (a .rows)) (a .known) (a .word) (a .i) (pre .0) (pre .1) (pre .2) (a .c) h (pre .4) (c .before .before .before .before .before .before .wide .ensures .0) (c .before .before .before .before .before .addresses .ensures))
-
-add-set-bits-2 : tie.Need-add-set-bits-2
-add-set-bits-2 c =
-    let a = c .before .before .before .before .before .before .before .before .before .before .before .before .args in
-    let pre = c .before .before .before .before .before .before .before .before .before .before .before .before .pre in
-    let R = now (a .records) in
-    let h = ended R (now (a .rows)) (a .known) (a .word) (a .i) (pre .0) (pre .1) (pre .2) (a .c) (pre .3) in
-    omega (arith, c .before .before .before .before .before .before .before .before .wide .ensures .0, h .few-out)
 
 wide-requires-3 : tie.Need-wide-requires-3
 wide-requires-3 c κs = search needs
 
-set-bits-requires-2 : tie.Need-set-bits-requires-2
-set-bits-requires-2 c κs =
-    let a = c .before .before .before .before .before .before .before .before .before .before .before .before .before .before .args in
-    let pre = c .before .before .before .before .before .before .before .before .before .before .before .before .before .before .pre in
+set-outputs-requires : tie.Need-set-outputs-requires
+set-outputs-requires c κs =
+    let a = c .before .before .before .before .before .before .before .before .before .before .before .args in
+    let pre = c .before .before .before .before .before .before .before .before .before .before .before .pre in
     let R = now (a .records) in
     let h = ended R (now (a .rows)) (a .known) (a .word) (a .i) (pre .0) (pre .1) (pre .2) (a .c) (pre .3) in
-    (formed-records R (now (a .rows)) (pre .0), pre .1, pre .2, h .from, ended-first R (now (a .rows)) (a .known) (a .word) (a .i) (pre .0) (pre .1) (pre .2) (a .c) h (pre .4) (c .before .before .before .before .before .before .before .before .before .before .wide .ensures .0) (c .before .before .before .before .before .before .before .before .before .addresses .ensures))
+    let w = c .before .before .before .before .before .before .before .wide .ensures .0 in
+    (formed-records R (now (a .rows)) (pre .0), pre .1, pre .2, h .from, h .outs, w ∙ h .lower, omega (arith, w, h .few-out))
 
 add-next-cell : tie.Need-add-next-cell
 add-next-cell c =
-    let a = c .before .before .before .before .before .before .before .before .before .before .before .before .before .before .before .args in
-    let pre = c .before .before .before .before .before .before .before .before .before .before .before .before .before .before .before .pre in
+    let a = c .before .before .before .before .before .before .before .before .before .before .before .before .args in
+    let pre = c .before .before .before .before .before .before .before .before .before .before .before .before .pre in
     let R = now (a .records) in
     let have = records-have R (formed-records R (now (a .rows)) (pre .0)) in
     omega (arith, pre .1, have .few)
 
 next-cell-requires : tie.Need-next-cell-requires
 next-cell-requires c κs =
-    let a = c .before .before .before .before .before .before .before .before .before .before .before .before .before .before .before .args in
-    let pre = c .before .before .before .before .before .before .before .before .before .before .before .before .before .before .before .pre in
+    let a = c .before .before .before .before .before .before .before .before .before .before .before .before .args in
+    let pre = c .before .before .before .before .before .before .before .before .before .before .before .before .pre in
     let R = now (a .records) in
     let h = ended R (now (a .rows)) (a .known) (a .word) (a .i) (pre .0) (pre .1) (pre .2) (a .c) (pre .3) in
     (omega (arith, h .few-in), omega (arith, h .rows-in, h .rows-few))
@@ -116,20 +93,18 @@ next-cell-requires c κs =
 returns : tie.Need-returns
 unfolding railSet someOuts eachOuts
 returns c =
-    let a = c .before .before .before .before .before .before .before .before .before .before .before .before .before .before .before .before .args in
-    let pre = c .before .before .before .before .before .before .before .before .before .before .before .before .before .before .before .before .pre in
+    let a = c .before .before .before .before .before .before .before .before .before .before .before .before .before .args in
+    let pre = c .before .before .before .before .before .before .before .before .before .before .before .before .before .pre in
     let R = now (a .records) in
     let h = ended R (now (a .rows)) (a .known) (a .word) (a .i) (pre .0) (pre .1) (pre .2) (a .c) (pre .3) in
     let k = endedBy R (a .i) in
-    let wide = c .before .before .before .before .before .before .before .before .before .before .before .before .wide .ensures .0 in
-    let g = ended-gathered R (now (a .rows)) (a .known) (a .word) (a .i) (pre .0) (pre .1) (pre .2) (a .c) h (pre .4) wide (c .before .before .before .before .before .before .before .before .before .before .before .addresses .ensures) (c .before .before .before .before .before .before .before .before .before .read-cell .ensures) in (
+    let wide = c .before .before .before .before .before .before .before .before .before .wide .ensures .0 in
+    let g = ended-gathered R (now (a .rows)) (a .known) (a .word) (a .i) (pre .0) (pre .1) (pre .2) (a .c) h (pre .4) wide (c .before .before .before .before .before .before .before .before .addresses .ensures) (c .before .before .before .before .before .before .read-cell .ensures) in
+    let bits = c .before .set-outputs .ensures in (
       c .next-cell .ensures ∙ ap₂ (λ (x : Begun) (r : ℕ). nextCell x (a .i + 1) r) (pre .3) wide ∙ begun-cut R (a .known) (a .word) (a .i) (pre .1) (pre .2),
       ap (λ (x : Gathered). x .next) g,
-      λ e.
-          c .before .before .before .before .before .set-bits .ensures
-          ∙ ap₂ (outputsAfter (cellAt R k)) e (c .before .before .before .before .before .before .before .wide2 .ensures .0 ∙ ap (λ (x : Gathered). x .some) g),
-      λ e.
-          c .before .set-bits2 .ensures ∙ ap₂ (outputsAfter (cellAt R k)) e (c .before .before .before .wide3 .ensures .0 ∙ ap (λ (x : Gathered). x .each) g),
+      λ e. bits .0 ∙ ap₂ (outputsAfter (cellAt R k)) e (c .before .before .before .before .before .wide2 .ensures .0 ∙ ap (λ (x : Gathered). x .some) g),
+      λ e. bits .1 ∙ ap₂ (outputsAfter (cellAt R k)) e (c .before .before .before .before .wide3 .ensures .0 ∙ ap (λ (x : Gathered). x .each) g),
     )
 
 pub end-cell-spec : {M : Type 1} → statement M
@@ -142,12 +117,9 @@ end-cell-spec =
     wide-requires
     addresses-requires
     read-cell-requires
-    add-set-bits
     wide-requires-2
-    set-bits-requires
-    add-set-bits-2
     wide-requires-3
-    set-bits-requires-2
+    set-outputs-requires
     add-next-cell
     next-cell-requires
     returns)

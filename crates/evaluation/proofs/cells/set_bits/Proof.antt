@@ -12,18 +12,19 @@ use Rattle.evaluation.proofs.cells.set_bits.Statement.{statement}
 use Rattle.evaluation.proofs.cells.set_bits.Tie as tie
 
 abbrev Inv-loop : tie.InvT-loop
-Inv-loop records from last first row outputs₀ e₀ i₀ outputs e i = SetTo records last row first outputs₀ outputs e i
+Inv-loop records from last first x y some₀ each₀ e₀ i₀ some each e i = SetTo records last x first some₀ some e i × SetTo records last y first each₀ each e i
 
 abbrev μ-loop : tie.MeasureT-loop
-μ-loop records from last first row outputs₀ e₀ i₀ outputs e i = last + 1 - i
+μ-loop records from last first x y some₀ each₀ e₀ i₀ some each e i = last + 1 - i
 
 loop-holds : tie.Need-loop-holds Inv-loop μ-loop
 loop-holds c =
     let a = c .before .args in
     let pre = c .before .pre in
-    let R = now (a .records) in
-    subst (λ (n : ℕ). SetTo R (a .last) (a .row) (a .first) (now (a .outputs)) (now (a .outputs)) (a .first) n) (sym (pre .3))
-    (set-none R (a .last) (a .row) (a .first) (now (a .outputs)) (pre .0) (pre .1) (pre .2) (pre .4))
+    let R = now (a .records) in (
+      subst (λ (n : ℕ). SetTo R (a .last) (a .x) (a .first) (now (a .some)) (now (a .some)) (a .first) n) (sym (pre .3)) (set-none R (a .last) (a .x) (a .first) (now (a .some)) (pre .0) (pre .1) (pre .2) (pre .4)),
+      subst (λ (n : ℕ). SetTo R (a .last) (a .y) (a .first) (now (a .each)) (now (a .each)) (a .first) n) (sym (pre .3)) (set-none R (a .last) (a .y) (a .first) (now (a .each)) (pre .0) (pre .1) (pre .2) (pre .4)),
+    )
 
 mul-wide : tie.Need-mul-wide Inv-loop μ-loop
 mul-wide c =
@@ -46,50 +47,53 @@ shared-slice-read-wide c =
 wide-requires : tie.Need-wide-requires Inv-loop μ-loop
 wide-requires c κs = search needs
 
-store-bit-requires : tie.Need-store-bit-requires Inv-loop μ-loop
-store-bit-requires c κs =
-    let a = c .before .before .before .before .before .before .args in
-    let pre = c .before .before .before .before .before .before .pre in
-    let l = c .before .before .before .before .loop in
+store-bits-requires : tie.Need-store-bits-requires Inv-loop μ-loop
+store-bits-requires c κs =
+    let a = c .before .before .before .before .before .before .before .args in
+    let pre = c .before .before .before .before .before .before .before .pre in
+    let l = c .before .before .before .before .before .loop in
     let R = now (a .records) in
     let have = records-have R (pre .0) in
-    let more = c .before .before .before .loop-test .taken in
-    let read = c .before .wide .ensures .0 in (
+    let more = c .before .before .before .before .loop-test .taken in
+    let read = c .before .before .wide .ensures .0 in (
       λ h. (
-        some-bit R (a .last) (a .row) (a .first) (now (a .outputs)) (pre .0) (pre .1) (pre .2) (pre .4) (l .inv) more read h,
+        some-bit R (a .last) (a .x) (a .first) (now (a .some)) (pre .0) (pre .1) (pre .2) (pre .4) (l .inv .0) more read h,
         omega (arith, read, small-output R (l .i) (have .each (l .i) (omega (arith, more, pre .1))) (omega (arith, read, h))),
       ),
-      omega (arith, few-bits R (a .last) (a .row) (a .first) (now (a .outputs)) (pre .0) (pre .1) (pre .2) (pre .4) (l .inv) more read),
+      omega (arith, few-bits R (a .last) (a .x) (a .first) (now (a .some)) (pre .0) (pre .1) (pre .2) (pre .4) (l .inv .0) more read),
     )
 
 add-i : tie.Need-add-i Inv-loop μ-loop
 add-i c =
-    let a = c .before .before .before .before .before .before .before .args in
-    let pre = c .before .before .before .before .before .before .before .pre in
-    let l = c .before .before .before .before .before .loop in
+    let a = c .before .before .before .before .before .before .before .before .args in
+    let pre = c .before .before .before .before .before .before .before .before .pre in
+    let l = c .before .before .before .before .before .before .loop in
     let R = now (a .records) in
     let have = records-have R (pre .0) in
-    omega (arith, c .before .before .before .before .loop-test .taken, pre .1, have .few)
+    omega (arith, c .before .before .before .before .before .loop-test .taken, pre .1, have .few)
 
 loop-less : tie.Need-loop-less Inv-loop μ-loop
 loop-less c =
-    omega (arith, c .before .before .before .before .loop-test .taken)
+    omega (arith, c .before .before .before .before .before .loop-test .taken)
 
 loop-again : tie.Need-loop-again Inv-loop μ-loop
 loop-again c =
-    let a = c .before .before .before .before .before .before .before .args in
-    let pre = c .before .before .before .before .before .before .before .pre in
-    let l = c .before .before .before .before .before .loop in
+    let a = c .before .before .before .before .before .before .before .before .args in
+    let pre = c .before .before .before .before .before .before .before .before .pre in
+    let l = c .before .before .before .before .before .before .loop in
     let R = now (a .records) in
-    set-more R (a .last) (a .row) (a .first) (now (a .outputs)) (pre .0) (pre .1) (pre .2) (pre .4) (l .inv) (c .before .before .before .before .loop-test .taken)
-    (c .before .before .wide .ensures .0) (c .store-bit .ensures .0) (c .store-bit .ensures .1)
+    let more = c .before .before .before .before .before .loop-test .taken in
+    let read = c .before .before .before .wide .ensures .0 in
+    let e = c .store-bits .ensures in
+    (set-more R (a .last) (a .x) (a .first) (now (a .some)) (pre .0) (pre .1) (pre .2) (pre .4) (l .inv .0) more read (e .0) (e .1), set-more R (a .last) (a .y) (a .first) (now (a .each)) (pre .0) (pre .1) (pre .2) (pre .4) (l .inv .1) more read (e .0) (e .2))
 
 returns : tie.Need-returns Inv-loop μ-loop
 returns c =
     let a = c .before .before .before .args in
     let pre = c .before .before .before .pre in
+    let l = c .before .loop in
     let R = now (a .records) in
-    set-all R (a .last) (a .row) (a .first) (now (a .outputs)) (pre .0) (pre .1) (pre .2) (pre .4) (c .before .loop .inv) (c .loop-test .left)
+    (set-all R (a .last) (a .x) (a .first) (now (a .some)) (pre .0) (pre .1) (pre .2) (pre .4) (l .inv .0) (c .loop-test .left), set-all R (a .last) (a .y) (a .first) (now (a .each)) (pre .0) (pre .1) (pre .2) (pre .4) (l .inv .1) (c .loop-test .left))
 
 pub set-bits-spec : {M : Type 1} → statement M
 set-bits-spec =
@@ -101,7 +105,7 @@ set-bits-spec =
     mul-wide
     shared-slice-read-wide
     wide-requires
-    store-bit-requires
+    store-bits-requires
     add-i
     loop-less
     loop-again

@@ -13,7 +13,7 @@ use Rattle.evaluation.proofs.gather.read_all.Tie as tie
 
 abbrev Inv-loop : tie.InvT-loop
 Inv-loop rows first count some₀ each₀ j₀ some each j =
-    (j ≤ count) × ((s : List ℕ) → fewAs some each (oneRail j) s ≡ inTurn j (plainRow rows first) (record { some = some₀; each = each₀; next = s }))
+    (j ≤ count) × ((s : List ℕ) → fewAs some each (oneRail j) s ≡ inTurn j (plainRow rows first 0) (record { some = some₀; each = each₀; next = s }))
 
 abbrev μ-loop : tie.MeasureT-loop
 μ-loop rows first count some₀ each₀ j₀ some each j = count - j
@@ -52,7 +52,7 @@ returns c = λ s.
     let a = c .before .before .args in
     let e : l .j ≡ a .count = omega (arith, l .inv .0, c .loop-test .left) in
     ap (λ (b : ℕ). fewAs (l .some) (l .each) b s) (sym (ap oneRail e ∙ one-rail (a .count) (c .before .before .pre .1))) ∙ l .inv .1 s
-    ∙ ap (λ (n : ℕ). inTurn n (plainRow (a .rows .now) (a .first)) (gatheredOf (a .seen) s)) e
+    ∙ ap (λ (n : ℕ). inTurn n (plainRow (a .rows .now) (a .first) 0) (gatheredOf (a .seen) s)) e
 
 pub read-all-spec : {M : Type 1} → statement M
 read-all-spec =

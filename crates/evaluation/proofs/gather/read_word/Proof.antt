@@ -13,7 +13,7 @@ use Rattle.evaluation.proofs.gather.read_word.Statement.{statement}
 use Rattle.evaluation.proofs.gather.read_word.Tie as tie
 
 abbrev Inv-loop : tie.InvT-loop
-Inv-loop rows p base word next₀ g₀ rest₀ b₀ next g rest b = 
+Inv-loop rows p base word next₀ g₀ rest₀ b₀ next g rest b =
     (b ≤ 64) × (rest ≡ word / 2 ^ b) × (gatheredOf g next ≡ inTurn b (ofBit rows p word base) (gatheredOf g₀ next₀))
 
 abbrev μ-loop : tie.MeasureT-loop
