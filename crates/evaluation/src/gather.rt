@@ -156,7 +156,7 @@ fn read_all(rows: &[u8], first: usize, count: usize, seen: Seen) -> Few
     }
 }
 
-// The rows of one rail word.
+// The rows of one rail word by the loop that fits, where rail words are below 64.
 fn read_either(
     rows: &[u8],
     first: usize,
@@ -178,21 +178,29 @@ fn read_either(
     read_few(rows, first, mask, free, count, low, seen)
 }
 
-// The rows of one rail word, of which first is that of the known inputs' values.
-fn read_one(rows: &[u8], p: Addresses, first: usize, seen: Seen, next: &mut RailSet) -> Seen
-    requires { ⌜ (first + p .free < length (now rows)) × Whole (p .mask) (p .free) ⌝ }
-    ensures { λ r. ⌜ gatheredOf r (now (next .exit))
-        ≡ inTurn (p .count) (railRow (now (rows .entry)) first (p .mask) (p .free) (p .low)) (gatheredOf seen (now (next .entry))) ⌝ }
+// The same, whatever the rail words below are.
+fn read_one(
+    rows: &[u8],
+    first: usize,
+    mask: usize,
+    free: usize,
+    count: usize,
+    low: usize,
+    seen: Seen,
+    next: &mut RailSet,
+) -> Seen
+    requires { ⌜ (first + free < length (now rows)) × Whole mask free ⌝ }
+    ensures { λ r. ⌜ gatheredOf r (now (next .exit)) ≡ inTurn count (railRow (now (rows .entry)) first mask free low) (gatheredOf seen (now (next .entry))) ⌝ }
 {
-    if p.low < 64 {
-        let few = read_either(rows, first, p.mask, p.free, p.count, p.low, seen);
+    if low < 64 {
+        let few = read_either(rows, first, mask, free, count, low, seen);
         next[0] = next[0] | few.rails;
         return Seen {
             some: few.some,
             each: few.each,
         };
     }
-    read_rail(rows, first, p.mask, p.free, p.count, p.low, seen, next)
+    read_rail(rows, first, mask, free, count, low, seen, next)
 }
 
 // The lowest bit that is 1.
@@ -222,7 +230,8 @@ fn read_word(
     while rest != 0 {
         let skipped = lowest(rest);
         let rail = b + skipped;
-        g = read_one(rows, p, base + rail * p.block + p.value, g, next);
+        let first = base + rail * p.block + p.value;
+        g = read_one(rows, first, p.mask, p.free, p.count, p.low, g, next);
         rest = (rest >> skipped) / 2;
         b = rail + 1;
     }

@@ -34,8 +34,8 @@ add-rail c =
     let within = bit-left (a .word) (l .b) (l .inv .1) (c .before .before .before .before .fits .word .fits) (z .result) (z .ensures .2) in
     omega (arith, within)
 
-mul-read-one : tie.Need-mul-read-one Inv-loop μ-loop
-mul-read-one c =
+mul-first : tie.Need-mul-first Inv-loop μ-loop
+mul-first c =
     let a = c .before .before .before .before .before .args in
     let pre = c .before .before .before .before .before .pre in
     let l = c .before .before .before .loop in
@@ -44,8 +44,8 @@ mul-read-one c =
     let h = mul-le-mul-right {m = l .b + z .result} {n = 64} (a .p .block) (omega (arith, within)) in
     omega (arith, h, pre .3)
 
-add-read-one : tie.Need-add-read-one Inv-loop μ-loop
-add-read-one c =
+add-first : tie.Need-add-first Inv-loop μ-loop
+add-first c =
     let a = c .before .before .before .before .before .args in
     let pre = c .before .before .before .before .before .pre in
     let l = c .before .before .before .loop in
@@ -54,8 +54,8 @@ add-read-one c =
     let h = mul-le-mul-right {m = l .b + z .result} {n = 64} (a .p .block) (omega (arith, within)) in
     omega (arith, h, pre .2, pre .3)
 
-add-read-one-2 : tie.Need-add-read-one-2 Inv-loop μ-loop
-add-read-one-2 c =
+add-first-2 : tie.Need-add-first-2 Inv-loop μ-loop
+add-first-2 c =
     let a = c .before .before .before .before .before .before .args in
     let pre = c .before .before .before .before .before .before .pre in
     let l = c .before .before .before .before .loop in
@@ -124,9 +124,9 @@ read-word-spec =
     loop-holds
     lowest-requires
     add-rail
-    mul-read-one
-    add-read-one
-    add-read-one-2
+    mul-first
+    add-first
+    add-first-2
     read-one-requires
     shr-rest
     add-b
