@@ -5,7 +5,7 @@ use second::generate::{
     compiled, damage, job, known_but, made, Family, Random, StoredBlock as Cascade,
 };
 use second::known::{
-    fillings, plain, sets, sets_with, submasks, two_rails, Mistake, Runs, Values, UNKNOWN,
+    fillings, fused, plain, sets, sets_with, submasks, two_rails, Mistake, Runs, Values, UNKNOWN,
 };
 use second::stored::{cells, emit, well_formed};
 
@@ -24,7 +24,7 @@ fn shown(lowest: &[u8]) -> Values {
 
 /// The exact evaluations must all say so.
 fn exact(cascade: &Cascade, known: u16, word: u16, lowest: &[u8]) {
-    for evaluation in [plain, fillings, sets] {
+    for evaluation in [plain, fillings, sets, fused] {
         let values = evaluation(&cascade.0, &cascade.1, known, word);
         assert_eq!(values, shown(lowest), "{known:b} {word:b}");
     }

@@ -45,8 +45,8 @@ impl Tested<'_> {
     }
 }
 
-/// What is left of a cascade to be taken apart.
-pub(super) struct Cells<'a> {
+/// What is left of a cascade to be taken apart. Without TEST its rows are not tested: they were before.
+pub(super) struct Cells<'a, const TEST: bool> {
     records: std::slice::Iter<'a, [u8; RECORD_BYTES]>,
     rows: &'a [u8],
     upper_rails: usize,
@@ -56,7 +56,7 @@ pub(super) struct Cells<'a> {
     word: u16,
 }
 
-impl<'a> Cells<'a> {
+impl<'a, const TEST: bool> Cells<'a, TEST> {
     #[inline(always)]
     pub fn new(records: &'a [u8], rows: &'a [u8], known: u16, word: u16) -> Result<Self, u8> {
         let (records, part) = records.as_chunks();
@@ -124,7 +124,7 @@ impl<'a> Cells<'a> {
         }
         (cell.rows, self.rows) = self.rows.split_at_checked(1 << inputs).ok_or(12)?;
         // A row of eight outputs may be any byte.
-        if outputs < 8 && over(cell.rows, outputs) {
+        if TEST && outputs < 8 && over(cell.rows, outputs) {
             return Err(12);
         }
         self.upper_rails = cell.lower_rails;

@@ -11,7 +11,7 @@ type Gathered = (u8, u8);
 pub fn fillings(records: &[u8], rows: &[u8], known: u16, word: u16) -> Values {
     let mut found = [Tested::OPEN; MAX_RECORDS];
     let (mut count, mut unknown) = (0, 0);
-    let mut cells = Cells::new(records, rows, known, word)?;
+    let mut cells = Cells::<true>::new(records, rows, known, word)?;
     while let Some(cell) = cells.next()? {
         for place in 0..cell.input_count {
             unknown |= !known & 1 << (cell.inputs >> (4 * place) & 15);

@@ -1,5 +1,5 @@
 //! Document 02, §5: what a stored cascade emits for certain while some inputs are unknown. `plain` goes through the fillings one by
-//! one, `fillings` does so fast, `sets` carries the set of rail words that may occur from cell to cell, and `two_rails` says what
+//! one, `fillings` does so fast, `sets` carries the set of rail words that may occur from cell to cell (`fused` while it tests), and `two_rails` says what
 //! remains of it where each rail is three-valued by itself, as document 003 has it.
 //!
 //! All take records, rows, the mask of known inputs and a word with their values. Bits of the word at unknown inputs, bits above 11
@@ -13,7 +13,7 @@ mod two_rails;
 
 pub use fillings::fillings;
 pub use plain::{plain, Runs};
-pub use sets::{sets, sets_with, Mistake};
+pub use sets::{fused, sets, sets_with, Mistake};
 pub use two_rails::two_rails;
 
 /// The value of an output that is 0 for some filling and 1 for another, or that the cascade lacks.

@@ -27,18 +27,32 @@ pub enum Mistake {
     LackingAsZero,
 }
 
-/// The exact evaluation in one pass. Each row that may be read is read once; nothing is allocated.
+/// The exact evaluation: the whole cascade is tested before any row is followed, as document 02 has it for the panel. Each row that may
+/// be read is then read once; nothing is allocated.
 pub fn sets(records: &[u8], rows: &[u8], known: u16, word: u16) -> Values {
-    evaluate(records, rows, known, word, Mistake::None)
+    let mut cells = Cells::<true>::new(records, rows, known, word)?;
+    while cells.next()?.is_some() {}
+    evaluate::<false>(records, rows, known, word, Mistake::None)
 }
 
-/// `sets`, with a mistake made on purpose. Used by tests only.
+/// The same in one pass: a cell is followed as soon as it is tested, whether or not the cells below it turn out well formed.
+pub fn fused(records: &[u8], rows: &[u8], known: u16, word: u16) -> Values {
+    evaluate::<true>(records, rows, known, word, Mistake::None)
+}
+
+/// `fused`, with a mistake made on purpose. Used by tests only.
 pub fn sets_with(records: &[u8], rows: &[u8], known: u16, word: u16, mistake: Mistake) -> Values {
-    evaluate(records, rows, known, word, mistake)
+    evaluate::<true>(records, rows, known, word, mistake)
 }
 
 #[inline(always)]
-fn evaluate(records: &[u8], rows: &[u8], known: u16, word: u16, mistake: Mistake) -> Values {
+fn evaluate<const TEST: bool>(
+    records: &[u8],
+    rows: &[u8],
+    known: u16,
+    word: u16,
+    mistake: Mistake,
+) -> Values {
     let mut values = match mistake {
         Mistake::LackingAsZero => [0; 8],
         _ => [UNKNOWN; 8],
@@ -47,7 +61,7 @@ fn evaluate(records: &[u8], rows: &[u8], known: u16, word: u16, mistake: Mistake
     set[0] = 1;
     // At least as many as the set has.
     let mut rail_words = 1;
-    let mut cells = Cells::new(records, rows, known, word)?;
+    let mut cells = Cells::<TEST>::new(records, rows, known, word)?;
     while let Some(cell) = cells.next()? {
         if mistake == Mistake::LowestRailWord {
             set = lowest(&set);

@@ -1,11 +1,11 @@
-//! Times one evaluation with unknown inputs, by the proved function, by `sets` and by all fillings, on the largest cascades. Argument:
+//! Times one evaluation with unknown inputs, by the proved function, `sets`, `fused` and all fillings, on the largest cascades. Argument:
 //! rounds of which the least counts (25 if none is given).
 
 use proved::known;
 use second::generate::{
     cascade, compiled, job, known_but, Family, Random, Rows, Shape, StoredBlock as Cascade,
 };
-use second::known::{fillings, sets, Values};
+use second::known::{fillings, fused, sets, Values};
 use second::{list, stored};
 use std::hint::black_box;
 use std::process::ExitCode;
@@ -40,7 +40,7 @@ fn time(evaluation: Evaluation, batch: &[Asked]) -> f64 {
 }
 
 fn measure(name: &str, cascades: &[Cascade], rounds: u32) {
-    const EVALUATIONS: [Evaluation; 3] = [proved_values, sets, fillings];
+    const EVALUATIONS: [Evaluation; 4] = [proved_values, sets, fused, fillings];
     let rows = cascades.iter().map(|(_, rows)| rows.len()).max();
     let cells = |(records, _): &Cascade| stored::cells(records).map_or(0, |cells| cells.len());
     let cells = cascades.iter().map(cells).max();
@@ -54,18 +54,19 @@ fn measure(name: &str, cascades: &[Cascade], rounds: u32) {
             let values = EVALUATIONS.map(|evaluation| evaluation(records, rows, *mask, *word));
             assert!(values[0].is_ok() && values.iter().all(|v| *v == values[0]));
         }
-        let mut least = [f64::MAX; 3];
+        let mut least = [f64::MAX; 4];
         for _ in 0..rounds {
             for (least, evaluation) in least.iter_mut().zip(EVALUATIONS) {
                 *least = least.min(time(evaluation, &batch));
             }
         }
-        let [proved, sets, filled] = least;
+        let [proved, sets, fused, filled] = least;
         println!(
-            "| {name} | {} | {} | {unknown} | {proved:.0} | {sets:.0} | {filled:.0} | {:.2} |",
+            "| {name} | {} | {} | {unknown} | {proved:.0} | {sets:.0} | {fused:.0} | {filled:.0} | {:.2} | {:.2} |",
             rows.unwrap_or(0),
             cells.unwrap_or(0),
-            proved / sets
+            proved / sets,
+            proved / fused
         );
     }
 }
@@ -116,8 +117,8 @@ fn main() -> ExitCode {
         return ExitCode::FAILURE;
     };
     println!("Nanoseconds an evaluation, least of {rounds} batches of {CALLS} taken in turn.");
-    println!("| cascades | rows | cells | unknown inputs | proved | sets | all fillings | proved / sets |");
-    println!("|---|---|---|---|---|---|---|---|");
+    println!("| cascades | rows | cells | unknown inputs | proved | sets | fused | all fillings | proved / sets | proved / fused |");
+    println!("|---|---|---|---|---|---|---|---|---|---|");
     for (name, cascades) in [
         (
             "largest by hand, random",
