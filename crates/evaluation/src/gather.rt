@@ -1,13 +1,13 @@
 // The rows of a cell that may be read: those whose address agrees with the known inputs and a rail word of the set above the cell, each once.
 ghost use mathlib.Core.Path.{_≡_};
-ghost use mathlib.Core.Bool.{true, false, cond};
+ghost use mathlib.Core.Bool.{true, false};
 ghost use mathlib.Core.List.{List};
 ghost use Prim.Native.Nat.{ℕ, _≤_, _<_, _+_, _*_, _^_};
 ghost use lib.Bits.{bitAnd};
 ghost use lib.ListN.{length};
 ghost use Rattle.laws.specs.Bits.{has};
 ghost use Rattle.evaluation_spec.specs.RailSets.{isIn, withRail, withRow, noneRead};
-ghost use Rattle.evaluation.specs.Agreeing.{gatheredOf, fewOf, Whole, railRow, plainRow, ofRail, ofWord, ofSet};
+ghost use Rattle.evaluation.specs.Agreeing.{gatheredOf, fewOf, Whole, railRow, plainRow, ofWord, ofSet};
 ghost use Rattle.laws.specs.Turns.{inTurn};
 use evaluation_spec::RAIL_WORDS;
 use numbers::wide;

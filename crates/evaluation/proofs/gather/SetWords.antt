@@ -1,7 +1,7 @@
 -- The rail words in a word of a set, bit by bit, and in a set, word by word.
 -- Assumes nothing.
 use mathlib.Core.Path.{_≡_, refl, sym, _∙_, ap, ap₂}
-use mathlib.Core.Bool.{true, false, cond}
+use mathlib.Core.Bool.{true, false}
 use mathlib.Core.List.{List}
 use Prim.Native.Nat.{ℕ, zero, suc, _+_, _-_, _*_, _/_, _%_, _^_, _≤_, _<_}
 use native.Mathlib.Nat.{mod-lt, div-one, pow-suc, not-suc-le-zero, zero-mul, add-mul}
@@ -9,7 +9,7 @@ use native.Mathlib.Omega.{arith}
 use lib.Dec.{eqb}
 use lib.Count.{under, trailingZeros}
 use lib.ListN.{getD}
-use lib.Pow.{shr-shr, shr-lt, pow-pos, pow-mono, split, high, low}
+use lib.Pow.{shr-shr, pow-pos, split, high, low}
 use borrow.Author.Tests.{eq-eqb, ne-eqb}
 use Rattle.laws.specs.Bits.{bit, has}
 use Rattle.laws.specs.Turns.{inTurn}

@@ -1,6 +1,5 @@
 -- `evaluation::gather::lowest` finds the lowest bit that is 1.
 -- Assumes nothing.
-use Prim.Native.Nat.{_<_}
 use native.Mathlib.Omega.{arith}
 use lib.Count.{trailingZeros, trailing-le}
 use Rattle.laws.proofs.Bits.{has-past}

@@ -1,12 +1,11 @@
 -- `evaluation::gather::read_word` reads the rows of the rail words in one word of the set.
 -- Assumes nothing.
-use mathlib.Core.Path.{_≡_, refl, sym, _∙_, ap}
-use Prim.Native.Nat.{ℕ, _+_, _-_, _*_, _/_, _^_, _≤_, _<_}
+use mathlib.Core.Path.{_≡_, refl, sym, _∙_}
+use Prim.Native.Nat.{_+_, _-_, _/_, _^_, _≤_}
 use native.Mathlib.Nat.{div-one, mul-le-mul-right}
 use native.Mathlib.Omega.{arith}
 use Rattle.laws.specs.Turns.{inTurn}
 use Rattle.evaluation.specs.Agreeing.{gatheredOf, ofRail, ofBit}
-use Rattle.evaluation.proofs.gather.Parts.{whole-small}
 use Rattle.evaluation.proofs.gather.SetWords.{rest-bit, bit-left, left-next, word-next, word-ends}
 use borrow.Author.Needs.{needs}
 use Rattle.evaluation.proofs.gather.read_word.Statement.{statement}
