@@ -94,7 +94,7 @@ fn addresses(c: Begun, rail: usize) -> Addresses
     }
 }
 
-// The cell that begins at record from, below the cell c and as many rails.
+// The cell that begins at record from, with that many rails above it, below the cell c.
 fn next_cell(c: Begun, from: usize, rail: usize) -> Begun
     requires { ⌜ (c .ins + c .upper ≤ 12) × (c .at ≤ 32768) ⌝ }
     ensures { λ r. ⌜ r ≡ nextCell c from rail ⌝ }

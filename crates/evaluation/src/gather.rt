@@ -6,9 +6,9 @@ ghost use Prim.Native.Nat.{ℕ, _≤_, _<_, _+_, _*_, _^_};
 ghost use lib.Bits.{bitAnd};
 ghost use lib.ListN.{length};
 ghost use Rattle.laws.specs.Bits.{has};
+ghost use Rattle.laws.specs.Turns.{inTurn};
 ghost use Rattle.evaluation_spec.specs.RailSets.{isIn, withRail, withRow, noneRead};
 ghost use Rattle.evaluation.specs.Agreeing.{gatheredOf, fewOf, Whole, railRow, plainRow, ofWord, ofSet};
-ghost use Rattle.laws.specs.Turns.{inTurn};
 use evaluation_spec::RAIL_WORDS;
 use numbers::wide;
 
@@ -35,6 +35,13 @@ pub struct Seen {
     pub each: u8,
 }
 
+// The same of rows whose rail words are below 64: the rail words are bits of one word.
+pub struct Few {
+    pub some: u8,
+    pub each: u8,
+    pub rails: u64,
+}
+
 // The set with the rail word r.
 pub fn mark(set: &mut RailSet, r: usize)
     requires { ⌜ r < 256 ⌝ }
@@ -42,13 +49,6 @@ pub fn mark(set: &mut RailSet, r: usize)
 {
     let bit = 1 << (r % 64);
     set[r / 64] = set[r / 64] | bit;
-}
-
-// The same of rows whose rail words are below 64: the rail words are bits of one word.
-pub struct Few {
-    pub some: u8,
-    pub each: u8,
-    pub rails: u64,
 }
 
 // One row more.

@@ -27,8 +27,8 @@ pub enum Mistake {
     LackingAsZero,
 }
 
-/// The exact evaluation: the whole cascade is tested before any row is followed, as document 02 has it for the panel. Each row that may
-/// be read is then read once; nothing is allocated.
+/// The exact evaluation: the whole cascade is tested before any row is followed, as the proved evaluation does it. Each row that may be
+/// read is then read once; nothing is allocated.
 pub fn sets(records: &[u8], rows: &[u8], known: u16, word: u16) -> Values {
     let mut cells = Cells::<true>::new(records, rows, known, word)?;
     while cells.next()?.is_some() {}
