@@ -147,6 +147,7 @@ int main(void)
     refusal = made;
     if (refusal != 0 || cascade_bank_new(255, bank, scan) != 0)
         return 0;
+    printf("cascade_known %zu\n", used_by(evaluate) - least);
     printf("cascade_admit %zu\n", used_by(admit) - least);
     printf("cascade_latch %zu\n", used_by(latch) - least);
     printf("cascade_step %zu\n", used_by(step) - least);
