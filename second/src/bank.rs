@@ -1,6 +1,8 @@
 //! The bank: admission of blocks, latching of input words, and the stepper that reads one cell at a time.
 
-use crate::stored::{self, Cell, MAX_RECORDS, MAX_ROWS, RECORD_BYTES};
+use crate::stored::{
+    self, row_value, rows_in, Cell, MAX_RECORDS, MAX_ROWS, RECORD_BYTES, ROW_BYTES,
+};
 
 /// The places for blocks.
 pub const PLACES: usize = 8;
@@ -55,8 +57,24 @@ pub enum Step {
 #[derive(Clone, Copy, Debug, PartialEq, Eq)]
 pub enum Mistake {
     None,
-    /// 14 is judged by the new block's cells alone.
+    /// Admission: 14 is judged by the new block's cells alone.
     ReadsPerBlock,
+    /// Admission and step: 11 is judged as if a row took one byte. Rows for which no room is left are dropped, and read as 0.
+    MemoryInRows,
+    /// Step: a row's high byte first.
+    HighByteFirst,
+    /// Step: a row's low byte alone.
+    LowByteAlone,
+}
+
+impl Mistake {
+    /// The bytes that a row is thought to need.
+    fn bytes_a_row(self) -> usize {
+        match self {
+            Mistake::MemoryInRows => 1,
+            _ => ROW_BYTES,
+        }
+    }
 }
 
 /// The cells of each block held, in order of admission.
@@ -117,7 +135,7 @@ pub fn new_bank(limit: u64) -> Result<(Bank, Scan), u8> {
     Ok((bank, Scan::fresh()))
 }
 
-/// Takes a block into the next place and its rows into `held_rows`, clears all outputs and drops the scan.
+/// Takes a block into the next place and its row bytes into `held_rows`, clears all outputs and drops the scan.
 /// Refusals, in this order, change nothing: 12 for bank or scan state, 12 for the block, 13, 14, 11.
 pub fn admit(
     bank: &mut Bank,
@@ -148,19 +166,20 @@ pub fn admit_with(
     }
     let new_cells = stored::cells(records).ok_or(12)?.len();
     let cells = match mistake {
-        Mistake::None => held.cells() + new_cells,
         Mistake::ReadsPerBlock => new_cells,
+        _ => held.cells() + new_cells,
     };
     if cells > usize::from(bank.limit) {
         return Err(14);
     }
     let start = held.rows();
-    let end = start + rows.len();
-    if end > MAX_ROWS {
+    let end = start + rows_in(rows).len();
+    if end > MAX_ROWS || held_rows.len() < mistake.bytes_a_row() * end {
         return Err(11);
     }
-    let room = held_rows.get_mut(start..end).ok_or(11)?;
-    room.copy_from_slice(rows);
+    let room = held_rows.get_mut(ROW_BYTES * start..).unwrap_or_default();
+    let kept = rows.len().min(room.len());
+    room[..kept].copy_from_slice(&rows[..kept]);
     bank.records[place][..records.len()].copy_from_slice(records);
     bank.lengths[place] = (records.len() / RECORD_BYTES) as u8;
     bank.count += 1;
@@ -184,13 +203,18 @@ pub fn latch(bank: &Bank, scan: &mut Scan, words: [u16; PLACES]) -> Result<(), u
 /// Reads the next cell: its outputs become set and the scan state moves on. Refusals, 12 and, after Idle, 11
 /// where `held_rows` is shorter than all rows held, change nothing.
 pub fn step(bank: &Bank, scan: &mut Scan, held_rows: &[u8]) -> Step {
+    step_with(bank, scan, held_rows, Mistake::None)
+}
+
+/// A step with a mistake switched on.
+pub fn step_with(bank: &Bank, scan: &mut Scan, held_rows: &[u8], mistake: Mistake) -> Step {
     let Some(held) = Held::of(bank, scan) else {
         return Step::Refused(12);
     };
     if !scan.running {
         return Step::Idle;
     }
-    if held_rows.len() < held.rows() {
+    if held_rows.len() < mistake.bytes_a_row() * held.rows() {
         return Step::Refused(11);
     }
     let went = Step::Went {
@@ -202,7 +226,13 @@ pub fn step(bank: &Bank, scan: &mut Scan, held_rows: &[u8]) -> Step {
     let block = &held.blocks[place];
     let cell = &block[number];
     let start = rows_of(held.blocks[..place].iter().flatten()) + rows_of(&block[..number]);
-    let row = held_rows[start + cell.address(scan.rail, scan.words[place])];
+    let at = start + cell.address(scan.rail, scan.words[place]);
+    let row = row_value(rows_in(held_rows).get(at).copied().unwrap_or_default());
+    let row = match mistake {
+        Mistake::HighByteFirst => row.swap_bytes(),
+        Mistake::LowByteAlone => row & 0xFF,
+        _ => row,
+    };
     for (output, value) in cell.values(row) {
         scan.outputs[place][output] = u8::from(value);
     }

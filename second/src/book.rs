@@ -1,4 +1,5 @@
-//! The book: what a list of calls on the bank must answer and set, told from the calls alone.
+//! The book: what a list of calls on the bank must answer and set, told from the calls alone. Row memory and rows handed in are
+//! bytes, two a row.
 
 /// A call on the bank, with the arguments the book is fed.
 #[derive(Clone, Debug, PartialEq, Eq)]
@@ -49,13 +50,18 @@ impl CellShape {
     }
 
     fn within_largest(&self) -> bool {
-        self.input_count() <= 12 && self.output_count() <= 8
+        self.input_count() <= 12 && self.output_count() <= 16
     }
 
     /// Only asked of cells within the largest.
     fn row_count(&self) -> usize {
         1 << self.input_count()
     }
+}
+
+/// The value of a row of a block, counted from the block's first: byte 2i is the low one, byte 2i + 1 the high one.
+fn value_of_row(rows: &[u8], number: usize) -> usize {
+    usize::from(rows[2 * number]) + 256 * usize::from(rows[2 * number + 1])
 }
 
 /// Cuts the records into cells. Records below the last cut belong to no cell and are left out.
@@ -111,17 +117,14 @@ pub fn well_formed(records: &[u8], rows: &[u8]) -> bool {
         return false;
     }
     let row_count: usize = cells.iter().map(CellShape::row_count).sum();
-    if row_count > USABLE_ROWS || row_count != rows.len() {
+    if row_count > USABLE_ROWS || 2 * row_count != rows.len() {
         return false;
     }
     let mut first = 0;
     for cell in &cells {
         let end = first + cell.row_count();
         let bound = 1usize << cell.output_count();
-        if rows[first..end]
-            .iter()
-            .any(|&row| usize::from(row) >= bound)
-        {
+        if (first..end).any(|number| value_of_row(rows, number) >= bound) {
             return false;
         }
         first = end;
@@ -142,7 +145,7 @@ pub struct Book {
 }
 
 impl Book {
-    /// `limit` is the scan limit S, 1 to 255; `row_memory` the length of the lent row memory.
+    /// `limit` is the scan limit S, 1 to 255; `row_memory` the length of the lent row memory in bytes.
     pub fn new(limit: u8, row_memory: usize) -> Book {
         Book {
             limit,
@@ -178,7 +181,7 @@ impl Book {
 
     /// The rows of all blocks in the book.
     pub fn row_count(&self) -> usize {
-        self.blocks.iter().map(|b| b.rows.len()).sum()
+        self.blocks.iter().map(|b| b.rows.len() / 2).sum()
     }
 
     /// Block and cell of each read left in the running scan, next one first; empty with no scan.
@@ -201,8 +204,8 @@ impl Book {
         if self.cell_count() + cells(records).len() > usize::from(self.limit) {
             return Some(14);
         }
-        let rows_in_all = self.row_count() + rows.len();
-        if rows_in_all > self.row_memory || rows_in_all > USABLE_ROWS {
+        let rows_in_all = self.row_count() + rows.len() / 2;
+        if 2 * rows_in_all > self.row_memory || rows_in_all > USABLE_ROWS {
             return Some(11);
         }
         None
@@ -248,7 +251,7 @@ impl Book {
         for input in &shape.inputs {
             address = address * 2 + usize::from(self.words[block] >> input & 1);
         }
-        let row = usize::from(self.blocks[block].rows[first + address]);
+        let row = value_of_row(&self.blocks[block].rows, first + address);
         for (place, output) in shape.outputs.iter().rev().enumerate() {
             let bit = row >> (shape.lower_rails + place) & 1 == 1;
             self.set[block][usize::from(*output)] = Some(bit);

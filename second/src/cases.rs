@@ -1,5 +1,5 @@
 //! The case table of the scope document, A to J: the sheet T and the jobs. E is as document 02, §1, has it, and S is the
-//! example of its §3.
+//! example of its §3. Two jobs more have rows above 255 (its §6).
 
 use crate::job::Job;
 
@@ -128,4 +128,56 @@ pub fn s_same() -> Job {
     let mut job = s();
     job.sheet[8 + 6] = 0;
     job
+}
+
+/// Records that make an output an input, for these values of other inputs.
+fn copied(sheet: &mut Vec<u8>, input: usize, output: usize, mask: u16, values: u16) {
+    for value in [0, 1] {
+        sheet.extend((mask | 1 << input).to_le_bytes());
+        sheet.extend((values | value << input).to_le_bytes());
+        let bit = 1 << output;
+        sheet.extend(if value == 0 { [bit, 0] } else { [0, bit] });
+        sheet.extend([0, 0]);
+    }
+}
+
+/// y1 is x1 where x12 is 0 and x9 where it is 1, y2 to y8 are x2 to x8. K 11, L 9, order x1 to x12, y1 to y8: 512 columns from
+/// below x9 to above x12.
+pub fn nine_rails() -> Job {
+    let mut sheet = Vec::new();
+    copied(&mut sheet, 0, 0, 1 << 11, 0);
+    copied(&mut sheet, 8, 0, 1 << 11, 1 << 11);
+    for place in 1..8 {
+        copied(&mut sheet, place, place, 0, 0);
+    }
+    Job {
+        inputs: 12,
+        outputs: 8,
+        cell_inputs: 11,
+        cell_outputs: 9,
+        order: (0..12).chain(128..136).collect(),
+        sheet,
+    }
+}
+
+/// y1 to y7 are x1 to x7, y8 is the one of x1 to x8 that x10 x11 x12 choose. K 11, L 15, order x1 to x9, y1 to y7, x10 x11 x12, y8:
+/// the cell above x10 has 7 outputs and 8 rails.
+pub fn fifteen_outputs() -> Job {
+    let mut sheet = Vec::new();
+    for place in 0..7 {
+        copied(&mut sheet, place, place, 0, 0);
+    }
+    for place in 0..8 {
+        // x10 most significant.
+        let choice = (place as u16).reverse_bits() >> 13 << 9;
+        copied(&mut sheet, place, 7, 7 << 9, choice);
+    }
+    Job {
+        inputs: 12,
+        outputs: 8,
+        cell_inputs: 11,
+        cell_outputs: 15,
+        order: (0..9).chain(128..135).chain(9..12).chain([135]).collect(),
+        sheet,
+    }
 }

@@ -10,6 +10,7 @@ mod dense;
 mod dependence;
 mod pending;
 mod plain;
+mod rails;
 mod random;
 mod sheet;
 mod stop;
@@ -17,9 +18,9 @@ mod stop_faults;
 mod wide;
 
 pub use arranged::arranged;
-pub use blocks::{block, compiled, compiled_with_totals, damage, StoredBlock};
+pub use blocks::{block, compiled, compiled_with_totals, damage, row_bytes, StoredBlock};
 pub use calls::calls;
-pub use cascades::{cascade, known_but, made, Rows, Shape};
+pub use cascades::{cascade, known_but, made, over_limit, Over, Rows, Shape};
 pub use damaged::Fault;
 pub use random::Random;
 
@@ -77,6 +78,10 @@ pub enum Family {
     StopDamaged,
     /// n 12, m 8, 256 records, about a third of them stop records.
     LimitStop,
+    /// Each cut list has a cut with 9 rails; with L 8, one job in ten, there is none.
+    NineRails,
+    /// Cells of up to 15 outputs, most of them over 8.
+    ManyOutputs,
 }
 
 impl Family {
@@ -95,7 +100,7 @@ impl Family {
         Family::StopDamaged,
     ];
 
-    pub const ALL: [Family; 23] = [
+    pub const ALL: [Family; 25] = [
         Family::SmallFewFree,
         Family::SmallManyFree,
         Family::SmallOrders,
@@ -119,6 +124,8 @@ impl Family {
         Family::StopClash,
         Family::StopDamaged,
         Family::LimitStop,
+        Family::NineRails,
+        Family::ManyOutputs,
     ];
 
     pub fn name(self) -> &'static str {
@@ -146,6 +153,8 @@ impl Family {
             Family::StopClash => "stop-clash",
             Family::StopDamaged => "stop-damaged",
             Family::LimitStop => "limit-stop",
+            Family::NineRails => "nine-rails",
+            Family::ManyOutputs => "many-outputs",
         }
     }
 
@@ -187,21 +196,27 @@ pub fn job(family: Family, seed: u64, index: u64) -> Job {
         Family::StopClash => stop_faults::stop_clash(random, index),
         Family::StopDamaged => stop_faults::stop_damaged(random, index),
         Family::LimitStop => stop::limit_stop(random),
+        Family::NineRails => rails::nine_rails(random),
+        Family::ManyOutputs => rails::many_outputs(random),
     }
 }
 
-/// A length one too short, exact, or too long.
+/// A length too short, often by one, exact, or too long.
 fn length(random: &mut Random, needed: usize) -> usize {
     match random.below(10) {
-        0 | 1 => needed.saturating_sub(1),
+        0 => needed.saturating_sub(1),
+        1 => {
+            let any = random.within(needed / 2, needed);
+            random.pick(&[needed.saturating_sub(1), needed / 2, any])
+        }
         2..=6 => needed,
         7 => needed + 1,
         _ => needed + random.within(1, 40),
     }
 }
 
-/// Memory to lend for a job that needs so many nodes, record bytes and row bytes: random old contents, each
-/// of the three one too short, exact or too long.
+/// Memory to lend for a job that needs so many nodes, record bytes and row bytes, two a row: random old contents,
+/// each of the three too short, exact or too long.
 pub fn lent(job: &Job, seed: u64, index: u64, needed: (usize, usize, usize)) -> Lent {
     let stream = job
         .order

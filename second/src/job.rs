@@ -19,7 +19,7 @@ pub struct Node {
     pub high: u16,
 }
 
-/// The memory lent to a compiler, of any length and contents.
+/// The memory lent to a compiler, of any length and contents: record bytes, and row bytes, two a row, low byte first.
 #[derive(Clone, Debug, PartialEq, Eq)]
 pub struct Lent {
     pub nodes: Vec<Node>,
@@ -27,7 +27,7 @@ pub struct Lent {
     pub rows: Vec<u8>,
 }
 
-/// What an accepted job is answered with. `widths[h]` is the width at height h for h below t, 0 from t on.
+/// What an accepted job is answered with. `rows` counts rows, not bytes. `widths[h]` is the width at height h for h below t, 0 from t on.
 #[derive(Clone, Copy, Debug, PartialEq, Eq)]
 pub struct Totals {
     pub nodes: usize,

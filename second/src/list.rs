@@ -1,6 +1,7 @@
 //! The listing: a job out of the bytes of standard input, and what program `cascade_list` prints.
 
 use crate::job::{Answer, Job, Lent, Node};
+use crate::stored::{row_value, rows_in, MAX_ROWS, ROW_BYTES};
 use std::fmt::Write;
 
 /// n, m, K and L, a byte each, 0 where the input has ended; the order, n + m bytes or what is left
@@ -27,11 +28,11 @@ fn enough() -> Lent {
     Lent {
         nodes: vec![Node::default(); 10_240],
         records: vec![0; 80],
-        rows: vec![0; 32_768],
+        rows: vec![0; ROW_BYTES * MAX_ROWS],
     }
 }
 
-/// Per height "height width rails", then per cell top height, bottom height, rows; or "refused N".
+/// Per height "height width rails", then per cell top height, bottom height, the values of its rows; or "refused N".
 pub fn listing(job: &Job, compile: fn(&Job, &mut Lent) -> Answer) -> String {
     let mut lent = enough();
     let totals = match compile(job, &mut lent) {
@@ -45,7 +46,7 @@ pub fn listing(job: &Job, compile: fn(&Job, &mut Lent) -> Answer) -> String {
         let width = totals.widths[height];
         let _ = writeln!(text, "{height} {width} {}", rails(width));
     }
-    let mut rows = &lent.rows[..totals.rows];
+    let mut rows = &rows_in(&lent.rows)[..totals.rows];
     let (mut upper, mut inputs) = (top, 0u32);
     for (place, record) in lent.records.chunks_exact(4).take(top).enumerate() {
         let height = top - place;
@@ -53,8 +54,8 @@ pub fn listing(job: &Job, compile: fn(&Job, &mut Lent) -> Answer) -> String {
         if record[1] == 1 {
             let (cell, after) = rows.split_at(1 << inputs);
             let _ = write!(text, "cell {upper} {}", height - 1);
-            for row in cell {
-                let _ = write!(text, " {row}");
+            for &row in cell {
+                let _ = write!(text, " {}", row_value(row));
             }
             text.push('\n');
             rows = after;

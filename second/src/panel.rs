@@ -8,6 +8,7 @@ use crate::fast;
 pub struct Panel {
     pub bank: Bank,
     pub scan: Scan,
+    /// Row memory, two bytes a row.
     pub rows: Vec<u8>,
 }
 

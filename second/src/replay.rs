@@ -1,22 +1,21 @@
 //! A list of bank calls as text, and what a program prints of it.
 //!
-//! The first line is `memory N`: the bytes of row memory, at most 32,768. Then one call a line, words parted by one space:
+//! The first line is `memory N`: the bytes of row memory, two a row, at most 65,536. Then one call a line, words parted by one space:
 //! - `bank S`: makes a bank with S, one to five digits, at most 65,535. Refused, it keeps the bank that stood before.
-//! - `admit RECORDS ROWS`: the block's bytes in base 16, two digits each; `-` for no bytes.
+//! - `admit RECORDS ROWS`: the block's bytes in base 16, two digits each, a row's low byte first; `-` for no bytes.
 //! - `latch W0 W1 W2 W3 W4 W5 W6 W7`: eight words of four digits in base 16.
 //! - `step`
 //!
 //! Empty lines and lines whose first byte is `#` are passed over. Each call prints `ok`, `went B C`, `idle` or
 //! `refused N`, then for each block held ` B:` and eight characters for outputs 0 to 7: `0`, `1`, or `.` for
 //! not set. With no bank made yet a call is refused with 12. A line that can't be read prints `line N: not understood`, and nothing
-//! after it is run. Of a text over 16,384 bytes nothing is run.
+//! after it is run. Of a text over 32,768 bytes nothing is run.
 
 use crate::bank::{self, Bank, Scan, Step};
 
 /// The longest text.
-pub const TEXT_BYTES: usize = 16_384;
-const MEMORY_BYTES: u32 = 32_768;
-const CALL_BYTES: usize = 65_535;
+pub const TEXT_BYTES: usize = 32_768;
+const MEMORY_BYTES: u32 = 65_536;
 
 struct Held {
     bank: Bank,
@@ -52,7 +51,7 @@ fn bytes(text: &[u8]) -> Option<Vec<u8>> {
     if text == b"-" {
         return Some(Vec::new());
     }
-    if text.is_empty() || text.len() % 2 != 0 || text.len() / 2 > CALL_BYTES {
+    if text.is_empty() || text.len() % 2 != 0 {
         return None;
     }
     let pairs = text.chunks_exact(2);
@@ -165,12 +164,12 @@ mod tests {
     use super::*;
 
     const BLOCK: &str = "000000000100000002010200800000000300000081010000 \
-                         00010202000302020101000002030202";
+                         0000010002000200000003000200020001000100000000000200030002000200";
 
     #[test]
     fn a_whole_scan() {
         let text = format!(
-            "memory 32\n# two blocks\nstep\n\nbank 4\nadmit {BLOCK}\nadmit {BLOCK}\nadmit {BLOCK}\nadmit - -\n\
+            "memory 64\n# two blocks\nstep\n\nbank 4\nadmit {BLOCK}\nadmit {BLOCK}\nadmit {BLOCK}\nadmit - -\n\
              latch 000d fffD 0000 0000 0000 0000 0000 ffff\nstep\nstep\nstep\nstep\nstep\nbank 0\nbank 256\nbank 1\nstep"
         );
         let expected = "refused 12\nok\nok 0:........\nok 0:........ 1:........\n\
@@ -218,7 +217,7 @@ mod tests {
             "",
             "\n",
             "memory",
-            "memory 32769\n",
+            "memory 65537\n",
             "memory 1 \n",
             "bank 1\n",
         ] {
@@ -233,6 +232,7 @@ mod tests {
             "ok\nline 3: not understood\n"
         );
         assert_eq!(printed(b"memory 1\n\n#\n"), "");
+        assert_eq!(printed(b"memory 65536\nbank 1\n"), "ok\n");
     }
 
     #[test]
@@ -240,6 +240,6 @@ mod tests {
         let text = [b"memory 1\n#".to_vec(), vec![b'x'; TEXT_BYTES - 10]].concat();
         assert_eq!(printed(&text), "");
         let text = [text, b"x".to_vec()].concat();
-        assert_eq!(printed(&text), "input over 16384 bytes\n");
+        assert_eq!(printed(&text), "input over 32768 bytes\n");
     }
 }

@@ -3,8 +3,22 @@
 pub const RECORD_BYTES: usize = 4;
 pub const MAX_RECORDS: usize = 20;
 pub const MAX_ROWS: usize = 32_768;
+pub const ROW_BYTES: usize = 2;
 /// Outputs stand in records as this number plus the output's own.
 pub const FIRST_OUTPUT: u8 = 128;
+
+/// A row as it stands in memory.
+pub type Row = [u8; ROW_BYTES];
+
+/// The rows in bytes, top first; a byte that is left over is no row.
+pub fn rows_in(bytes: &[u8]) -> &[Row] {
+    bytes.as_chunks().0
+}
+
+/// The value of a row: low byte first.
+pub fn row_value(row: Row) -> u16 {
+    u16::from_le_bytes(row)
+}
 
 /// One variable of the order, top first. `rails` are those of the cut directly below it.
 #[derive(Clone, Copy, Debug, PartialEq, Eq)]
@@ -14,7 +28,7 @@ pub struct Record {
     pub rails: u8,
 }
 
-/// Records and rows of any contents, not always well formed.
+/// Records and row bytes of any contents, not always well formed.
 #[derive(Clone, Debug, PartialEq, Eq)]
 pub struct Cascade {
     pub records: Vec<Record>,
@@ -39,7 +53,7 @@ pub struct Cell {
 
 impl Cell {
     pub const MAX_INPUTS: usize = 12;
-    pub const MAX_OUTPUTS: usize = 8;
+    pub const MAX_OUTPUTS: usize = 16;
 
     fn open(top: usize, upper_rails: usize) -> Cell {
         Cell {
@@ -75,8 +89,8 @@ impl Cell {
         })
     }
 
-    /// The output variables with their bits of a row, topmost first. Higher bits are passed over.
-    pub fn values(&self, row: u8) -> impl Iterator<Item = (usize, bool)> + '_ {
+    /// The output variables with their bits of a row's value, topmost first. Higher bits are passed over.
+    pub fn values(&self, row: u16) -> impl Iterator<Item = (usize, bool)> + '_ {
         let places = (self.lower_rails..self.output_count()).rev();
         self.outputs
             .iter()
@@ -84,9 +98,9 @@ impl Cell {
             .map(move |(&output, place)| (usize::from(output), row >> place & 1 == 1))
     }
 
-    /// The rail word that a row hands to the next cell.
-    pub fn next_rail(&self, row: u8) -> u16 {
-        u16::from(row) & ((1 << self.lower_rails) - 1)
+    /// The rail word that a row's value hands to the next cell.
+    pub fn next_rail(&self, row: u16) -> u16 {
+        row & ((1 << self.lower_rails) - 1)
     }
 }
 
@@ -130,23 +144,22 @@ pub fn cells(records: &[u8]) -> Option<Vec<Cell>> {
             _ => return None,
         }
     }
-    // The cell left open must be an empty one with no rails above it. At most 8 rails and 12 inputs keep every
-    // single block below the row limit; the test stands as the rule does.
+    // The cell left open must be an empty one with no rails above it.
     (cell.length == 0 && cell.upper_rails == 0 && rows <= MAX_ROWS).then_some(closed)
 }
 
 /// The cells, each with its rows, when the whole stored form is well formed.
-pub fn cells_with_rows<'a>(records: &[u8], rows: &'a [u8]) -> Option<Vec<(Cell, &'a [u8])>> {
+pub fn cells_with_rows<'a>(records: &[u8], rows: &'a [u8]) -> Option<Vec<(Cell, &'a [Row])>> {
     let cells = cells(records)?;
-    if rows.len() != cells.iter().map(|cell| cell.rows).sum::<usize>() {
+    if rows.len() != ROW_BYTES * cells.iter().map(|cell| cell.rows).sum::<usize>() {
         return None;
     }
-    let mut rest = rows;
+    let mut rest = rows_in(rows);
     let mut pairs = Vec::with_capacity(cells.len());
     for cell in cells {
         let (own, after) = rest.split_at(cell.rows);
-        let limit = 1u16 << cell.output_count();
-        if own.iter().any(|&row| u16::from(row) >= limit) {
+        let limit = 1u32 << cell.output_count();
+        if own.iter().any(|&row| u32::from(row_value(row)) >= limit) {
             return None;
         }
         rest = after;
@@ -197,20 +210,20 @@ pub fn write(cascade: &Cascade, records: &mut [u8], rows: &mut [u8]) -> Result<(
     Ok(())
 }
 
-/// The cells of a well-formed cascade, each with the row that an input word leads to.
+/// The cells of a well-formed cascade, each with the value of the row that an input word leads to.
 pub fn walk<'a>(
-    cells: &'a [(Cell, &'a [u8])],
+    cells: &'a [(Cell, &'a [Row])],
     word: u16,
-) -> impl Iterator<Item = (&'a Cell, u8)> + 'a {
+) -> impl Iterator<Item = (&'a Cell, u16)> + 'a {
     cells.iter().scan(0, move |rail, (cell, own)| {
-        let row = own[cell.address(*rail, word)];
+        let row = row_value(own[cell.address(*rail, word)]);
         *rail = cell.next_rail(row);
         Some((cell, row))
     })
 }
 
 /// What the cells of a well-formed cascade emit for an input word, by output number; None for an output it does not have.
-pub fn emitted(cells: &[(Cell, &[u8])], word: u16) -> [Option<bool>; 8] {
+pub fn emitted(cells: &[(Cell, &[Row])], word: u16) -> [Option<bool>; 8] {
     let mut emitted = [None; 8];
     for (cell, row) in walk(cells, word) {
         for (output, value) in cell.values(row) {

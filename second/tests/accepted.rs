@@ -81,4 +81,6 @@ fn larger() {
     check(Family::LimitStop, 25);
     check(Family::StopSome, 2_000);
     check(Family::StopOnly, 500);
+    check(Family::NineRails, 20);
+    check(Family::ManyOutputs, 60);
 }

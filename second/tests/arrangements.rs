@@ -37,7 +37,7 @@ fn same(
         first.0
     };
     let needed = match all(&enough()) {
-        Answer::Accepted(totals) => (totals.nodes, 4 * job.order.len(), totals.rows),
+        Answer::Accepted(totals) => (totals.nodes, 4 * job.order.len(), 2 * totals.rows),
         Answer::Refused(_) => (1, 1, 1),
     };
     all(&lent(job, SEED, index, needed));
@@ -56,6 +56,8 @@ fn both_compilers() {
             Family::LimitNamed | Family::LimitStop => (20, 1),
             Family::Columns512 | Family::Columns513 => (20, 1),
             Family::ColumnsAround | Family::ColumnsDense => (20, 1),
+            Family::NineRails => (20, 1),
+            Family::ManyOutputs => (60, 4),
             Family::Medium | Family::FullRows => (100, 8),
             _ => (300, 60),
         };

@@ -1,17 +1,23 @@
 //! Bank against book on random lists of calls, and what demand 3 says beside the book.
 
 use second::book::{Book, Call, Said};
-use second::generate::{block, calls, compiled, job, Family, StoredBlock};
+use second::generate::{block, calls, compiled, job, made, Family, StoredBlock};
 use second::panel::Panel;
 use second::stored;
 
 const SEED: u64 = 4711;
 
-/// Hand-made blocks and blocks that the compiler wrote.
+/// Hand-made blocks and blocks that the compiler wrote; some have cells of more than eight outputs.
 fn blocks(index: u64) -> Vec<StoredBlock> {
     let hand_made = (0..3).map(|k| block(SEED, index * 3 + k));
+    let of_many = (index % 8 == 0).then(|| made(SEED, index / 8));
+    let family = match index % 8 {
+        1 => Family::ManyOutputs,
+        _ => Family::SmallOrders,
+    };
     hand_made
-        .chain(compiled(&job(Family::SmallOrders, SEED, index)))
+        .chain(of_many)
+        .chain(compiled(&job(family, SEED, index)))
         .collect()
 }
 
@@ -84,11 +90,20 @@ fn unread_inputs_stand_as_they_like() {
         let words: [u16; 8] =
             std::array::from_fn(|b| (index * 977 + b as u64 * 331) as u16 & 0xFFF);
         let flips: [u16; 8] = std::array::from_fn(|b| (index * 7919 + b as u64 * 127) as u16);
-        let mut panel = panel(255, 40_000);
-        for (records, rows) in &blocks {
-            let (records, rows) = (records.clone(), rows.clone());
-            assert_eq!(panel.call(&Call::Admit { records, rows }), Said::Accepted);
+        let mut panel = panel(255, 65_536);
+        let mut held = Vec::new();
+        for (records, rows) in blocks {
+            let call = Call::Admit {
+                records: records.clone(),
+                rows: rows.clone(),
+            };
+            match panel.call(&call) {
+                Said::Accepted => held.push((records, rows)),
+                // The largest leave no room for others.
+                said => assert_eq!(said, Said::Refused(11)),
+            }
         }
+        let blocks = held;
         let rest = panel.clone();
         panel.call(&Call::Latch(words));
         let mut used = [0u16; 8];

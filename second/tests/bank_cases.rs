@@ -9,9 +9,13 @@ mod damage;
 const A_RECORDS: [u8; 24] = [
     0x00, 0, 0, 0, 0x01, 0, 0, 0, 0x02, 1, 2, 0, 0x80, 0, 0, 0, 0x03, 0, 0, 0, 0x81, 1, 0, 0,
 ];
-const A_ROWS: [u8; 16] = [0, 1, 2, 2, 0, 3, 2, 2, 1, 1, 0, 0, 2, 3, 2, 2];
+#[rustfmt::skip]
+const A_ROWS: [u8; 32] = [
+    0, 0, 1, 0, 2, 0, 2, 0, 0, 0, 3, 0, 2, 0, 2, 0,
+    1, 0, 1, 0, 0, 0, 0, 0, 2, 0, 3, 0, 2, 0, 2, 0,
+];
 /// A block of one cell with one row.
-const ONE: ([u8; 4], [u8; 1]) = ([128, 1, 0, 0], [1]);
+const ONE: ([u8; 4], [u8; 2]) = ([128, 1, 0, 0], [1, 0]);
 
 /// Table 1 of document 000, x1 most significant: y1 then y2, `d` for free.
 const TABLE: [&str; 16] = [
@@ -25,20 +29,20 @@ fn went(block: u8, cell: u8) -> Step {
 /// Twelve inputs in one cell: 4,096 rows, all 0.
 fn wide() -> (Vec<u8>, Vec<u8>) {
     let records = (0..12).flat_map(|v| [v, u8::from(v == 11), 0, 0]);
-    (records.collect(), vec![0; 4096])
+    (records.collect(), vec![0; 2 * 4096])
 }
 
 /// Two cells, the second of eight rails and four inputs: 256 + 4,096 rows.
 fn wider() -> (Vec<u8>, Vec<u8>) {
     let mut records = wide().0;
     (records[4 * 7 + 1], records[4 * 7 + 2]) = (1, 8);
-    (records, vec![0; 256 + 4096])
+    (records, vec![0; 2 * (256 + 4096)])
 }
 
 /// A bank with the given S that holds case A's block twice, and its row memory.
 fn two(limit: u64) -> (Bank, Scan, Vec<u8>) {
     let (mut bank, mut scan) = new_bank(limit).unwrap();
-    let mut rows = vec![0; 32];
+    let mut rows = vec![0; 64];
     for _ in 0..2 {
         let answer = admit(&mut bank, &mut scan, &mut rows, &A_RECORDS, &A_ROWS);
         assert_eq!(answer, Ok(()));
@@ -82,6 +86,10 @@ fn making_a_bank() {
     assert_eq!(scan, fresh);
     assert_eq!(
         admit(&mut bank, &mut scan, &mut [0], &ONE.0, &ONE.1),
+        Err(11)
+    );
+    assert_eq!(
+        admit(&mut bank, &mut scan, &mut [0; 2], &ONE.0, &ONE.1),
         Ok(())
     );
 }
@@ -146,7 +154,7 @@ fn case_l_scans_all_words() {
 #[test]
 fn latch_and_admission_drop_a_scan() {
     let (mut bank, mut scan, mut rows) = two(5);
-    rows.push(7);
+    rows.extend([7; 2]);
     for steps in 0..6 {
         latch(&bank, &mut scan, [5; 8]).unwrap();
         for _ in 0..steps {
@@ -165,7 +173,7 @@ fn latch_and_admission_drop_a_scan() {
         Ok(())
     );
     assert_eq!(scan, new_bank(5).unwrap().1);
-    assert_eq!((bank.count, rows[32]), (3, 1));
+    assert_eq!((bank.count, &rows[64..]), (3, &[1, 0][..]));
     assert_eq!(step(&bank, &mut scan, &rows), Step::Idle);
     latch(&bank, &mut scan, [0; 8]).unwrap();
     let answers: Vec<Step> = (0..6).map(|_| step(&bank, &mut scan, &rows)).collect();
@@ -176,7 +184,7 @@ fn latch_and_admission_drop_a_scan() {
 
 #[test]
 fn admission_refuses_12_13_14_11() {
-    let bad = &A_ROWS[1..];
+    let bad = &A_ROWS[2..];
     // Alone.
     assert_eq!(admitted(&mut started(255, 99), &A_RECORDS, bad), Err(12));
     let mut full = started(8, 99);
@@ -187,21 +195,28 @@ fn admission_refuses_12_13_14_11() {
     roomy.0.limit = 255;
     assert_eq!(admitted(&mut roomy, &A_RECORDS, &A_ROWS), Err(13));
     assert_eq!(admitted(&mut started(1, 99), &A_RECORDS, &A_ROWS), Err(14));
-    assert_eq!(
-        admitted(&mut started(255, 15), &A_RECORDS, &A_ROWS),
-        Err(11)
-    );
-    assert_eq!(admitted(&mut started(2, 16), &A_RECORDS, &A_ROWS), Ok(()));
+    for bytes in [0, 15, 16, 30, 31] {
+        let mut short = started(255, bytes);
+        assert_eq!(admitted(&mut short, &A_RECORDS, &A_ROWS), Err(11));
+    }
+    for bytes in [32, 33, 34] {
+        let mut held = started(2, bytes);
+        assert_eq!(admitted(&mut held, &A_RECORDS, &A_ROWS), Ok(()));
+        assert_eq!(
+            (&held.2[..32], &held.2[32..]),
+            (&A_ROWS[..], &[7, 7][..bytes - 32])
+        );
+    }
     // In pairs.
     assert_eq!(admitted(&mut roomy, &A_RECORDS, bad), Err(12));
     assert_eq!(admitted(&mut started(1, 99), &A_RECORDS, bad), Err(12));
     assert_eq!(admitted(&mut started(255, 0), &A_RECORDS, bad), Err(12));
     assert_eq!(admitted(&mut full, &ONE.0, &ONE.1), Err(13));
-    roomy.2.truncate(8);
+    roomy.2.truncate(16);
     assert_eq!(admitted(&mut roomy, &A_RECORDS, &A_ROWS), Err(13));
-    assert_eq!(admitted(&mut started(1, 15), &A_RECORDS, &A_ROWS), Err(14));
+    assert_eq!(admitted(&mut started(1, 31), &A_RECORDS, &A_ROWS), Err(14));
     // All of them, then a running scan, which a refusal keeps.
-    full.2.truncate(8);
+    full.2.truncate(16);
     assert_eq!(admitted(&mut full, &A_RECORDS, bad), Err(12));
     assert_eq!(admitted(&mut full, &A_RECORDS, &A_ROWS), Err(13));
     let mut held = two(5);
@@ -214,25 +229,27 @@ fn admission_refuses_12_13_14_11() {
 #[test]
 fn rows_in_all() {
     let (records, rows) = wide();
-    let mut held = started(255, 40_000);
+    let mut held = started(255, 80_000);
     for _ in 0..7 {
         assert_eq!(admitted(&mut held, &records, &rows), Ok(()));
     }
-    let mut narrow = held.clone();
-    narrow.2.truncate(32_767);
-    assert_eq!(admitted(&mut narrow, &records, &rows), Err(11));
+    for bytes in [32_768, 65_534, 65_535] {
+        let mut narrow = held.clone();
+        narrow.2.truncate(bytes);
+        assert_eq!(admitted(&mut narrow, &records, &rows), Err(11));
+    }
     // 32,768 rows in all are usable, one more is not, however much is lent.
     let (more, more_rows) = wider();
     assert_eq!(admitted(&mut held, &more, &more_rows), Err(11));
     assert_eq!(admitted(&mut held, &records, &rows), Ok(()));
     assert_eq!(
-        (&held.2[..32_768], &held.2[32_768..]),
-        (&[0; 32_768][..], &[7; 7232][..])
+        (&held.2[..65_536], &held.2[65_536..]),
+        (&[0; 65_536][..], &[7; 14_464][..])
     );
     assert_eq!(latch(&held.0, &mut held.1, [0; 8]), Ok(()));
-    assert_eq!(step(&held.0, &mut held.1, &held.2[..32_768]), went(0, 0));
+    assert_eq!(step(&held.0, &mut held.1, &held.2[..65_536]), went(0, 0));
     assert_eq!(
-        step(&held.0, &mut held.1, &held.2[..32_767]),
+        step(&held.0, &mut held.1, &held.2[..65_535]),
         Step::Refused(11)
     );
 }
@@ -243,7 +260,7 @@ fn step_gives_12_then_idle_then_11() {
     assert_eq!(step(&bank, &mut scan, &[]), Step::Idle);
     latch(&bank, &mut scan, [5; 8]).unwrap();
     let latched = scan.clone();
-    for length in [0, 8, 16, 31] {
+    for length in [0, 16, 32, 62, 63] {
         // All rows held count, not just those of the cell to be read.
         assert_eq!(step(&bank, &mut scan, &rows[..length]), Step::Refused(11));
         assert_eq!(scan, latched);

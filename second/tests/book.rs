@@ -5,7 +5,11 @@ use second::book::{well_formed, Book, Call, Said};
 const RECORDS: [u8; 24] = [
     0x00, 0, 0, 0, 0x01, 0, 0, 0, 0x02, 1, 2, 0, 0x80, 0, 0, 0, 0x03, 0, 0, 0, 0x81, 1, 0, 0,
 ];
-const ROWS: [u8; 16] = [0, 1, 2, 2, 0, 3, 2, 2, 1, 1, 0, 0, 2, 3, 2, 2];
+#[rustfmt::skip]
+const ROWS: [u8; 32] = [
+    0, 0, 1, 0, 2, 0, 2, 0, 0, 0, 3, 0, 2, 0, 2, 0,
+    1, 0, 1, 0, 0, 0, 0, 0, 2, 0, 3, 0, 2, 0, 2, 0,
+];
 
 fn admit(records: &[u8], rows: &[u8]) -> Call {
     Call::Admit {
@@ -64,16 +68,25 @@ fn case_k() {
 
 #[test]
 fn case_l() {
-    let mut book = Book::new(4, 32);
-    assert_eq!(book.enter(&case_a()), Said::Accepted);
-    assert_eq!(book.enter(&case_a()), Said::Accepted);
-    assert_eq!((book.block_count(), book.cell_count()), (2, 4));
-    assert_eq!(book.row_count(), 32);
+    for bytes in [64, 65] {
+        let mut book = Book::new(4, bytes);
+        assert_eq!(book.enter(&case_a()), Said::Accepted);
+        assert_eq!(book.enter(&case_a()), Said::Accepted);
+        assert_eq!((book.block_count(), book.cell_count()), (2, 4));
+        assert_eq!(book.row_count(), 32);
+    }
+    for bytes in [32, 33, 62, 63] {
+        let mut book = Book::new(4, bytes);
+        assert_eq!(book.enter(&case_a()), Said::Accepted);
+        assert_eq!(book.enter(&case_a()), Said::Refused(11));
+    }
+    let mut book = Book::new(4, 31);
+    assert_eq!(book.enter(&case_a()), Said::Refused(11));
 }
 
 #[test]
 fn whole_scans() {
-    let mut book = Book::new(4, 32);
+    let mut book = Book::new(4, 64);
     assert_eq!(book.enter(&Call::Step), Said::Idle);
     book.enter(&case_a());
     book.enter(&case_a());
@@ -111,9 +124,9 @@ fn outputs_above_the_last_cell() {
     let records = [
         0, 0, 0, 0, 131, 0, 0, 0, 129, 1, 1, 0, 1, 0, 0, 0, 128, 1, 0, 0,
     ];
-    let rows = [0b011, 0b100, 1, 0, 0, 1];
+    let rows = [0b011, 0, 0b100, 0, 1, 0, 0, 0, 0, 0, 1, 0];
     assert!(well_formed(&records, &rows));
-    let mut book = Book::new(255, 6);
+    let mut book = Book::new(255, 12);
     assert_eq!(book.enter(&admit(&records, &rows)), Said::Accepted);
     book.enter(&latch(0b10, 0));
     book.enter(&Call::Step);
@@ -135,7 +148,7 @@ fn outputs_above_the_last_cell() {
 
 #[test]
 fn scan_dropped_by_a_latch() {
-    let mut book = Book::new(4, 32);
+    let mut book = Book::new(4, 64);
     book.enter(&case_a());
     book.enter(&case_a());
     book.enter(&latch(5, 6));
@@ -151,11 +164,11 @@ fn scan_dropped_by_a_latch() {
 
 #[test]
 fn scan_dropped_by_an_admission_only_when_accepted() {
-    let mut book = Book::new(4, 32);
+    let mut book = Book::new(4, 64);
     book.enter(&case_a());
     book.enter(&latch(5, 6));
     book.enter(&Call::Step);
-    book.enter(&admit(&RECORDS, &ROWS[1..]));
+    book.enter(&admit(&RECORDS, &ROWS[2..]));
     assert_eq!(book.cells_to_read(), [(0, 1)]);
     assert_eq!(book.enter(&Call::Step), went(0, 1));
     assert_ne!(book.outputs(), [[None; 8]]);
@@ -177,19 +190,19 @@ fn a_latch_with_no_block() {
 
 #[test]
 fn refusals_of_admission_in_their_order() {
-    let one_row = admit(&[0x80, 1, 0, 0], &[1]);
-    let malformed = admit(&[0x80, 1, 0, 0], &[2]);
+    let one_row = admit(&[0x80, 1, 0, 0], &[1, 0]);
+    let malformed = admit(&[0x80, 1, 0, 0], &[2, 0]);
     // Eight blocks fill S and the row memory, so that all four cases hold at once.
-    let mut book = Book::new(8, 8);
+    let mut book = Book::new(8, 16);
     for _ in 0..8 {
         assert_eq!(book.enter(&one_row), Said::Accepted);
     }
     assert_eq!(book.enter(&malformed), Said::Refused(12));
     assert_eq!(book.enter(&one_row), Said::Refused(13));
-    let mut book = Book::new(1, 1);
+    let mut book = Book::new(1, 3);
     assert_eq!(book.enter(&one_row), Said::Accepted);
     assert_eq!(book.enter(&one_row), Said::Refused(14));
-    let mut book = Book::new(2, 1);
+    let mut book = Book::new(2, 3);
     assert_eq!(book.enter(&one_row), Said::Accepted);
     assert_eq!(book.enter(&one_row), Said::Refused(11));
 }
@@ -199,13 +212,13 @@ fn usable_rows_bound_the_bank() {
     let mut records: Vec<u8> = (0..12).flat_map(|input| [input, 0, 0, 0]).collect();
     let last = records.len() - 3;
     records[last] = 1;
-    let block = admit(&records, &[0; 4096]);
+    let block = admit(&records, &[0; 8192]);
     let mut book = Book::new(255, 100_000);
     for _ in 0..8 {
         assert_eq!(book.enter(&block), Said::Accepted);
     }
     assert_eq!(book.row_count(), 32_768);
-    let one_row = admit(&[0x80, 1, 0, 0], &[1]);
+    let one_row = admit(&[0x80, 1, 0, 0], &[1, 0]);
     let mut book = Book::new(255, 100_000);
     assert_eq!(book.enter(&one_row), Said::Accepted);
     for _ in 0..7 {
@@ -225,7 +238,7 @@ fn usable_rows_bound_the_bank() {
         records.extend([input, cut, rails, 0]);
     }
     let count = 2 + (1 << 3) + 2 * (1 << 12);
-    let block = admit(&records, &vec![0; count]);
+    let block = admit(&records, &vec![0; 2 * count]);
     let mut book = Book::new(255, 100_000);
     for _ in 0..3 {
         assert_eq!(book.enter(&block), Said::Accepted);
@@ -238,14 +251,17 @@ fn stored_forms_that_are_not_well_formed() {
     assert!(well_formed(&RECORDS, &ROWS));
     assert!(!well_formed(&[], &[]));
     assert!(!well_formed(&RECORDS[..23], &ROWS));
-    assert!(!well_formed(&RECORDS, &ROWS[..15]));
+    for length in [0, 15, 16, 30, 31] {
+        assert!(!well_formed(&RECORDS, &ROWS[..length]));
+    }
+    assert!(!well_formed(&RECORDS, &[&ROWS[..], &[0]].concat()));
     // Place, then bytes that make it wrong.
     let wrong: [(usize, &[u8]); 8] = [
         (0, &[12, 127, 136, 255, 1]),
         (1, &[1, 2, 255]),
         (2, &[1, 255]),
         (3, &[1, 255]),
-        (10, &[3, 9, 31, 32, 63, 64, 128, 255]),
+        (10, &[3, 9, 12, 16, 17, 31, 32, 63, 64, 128, 255]),
         (12, &[129]),
         (21, &[0, 2]),
         (22, &[1, 7, 8, 64, 255]),
@@ -257,9 +273,9 @@ fn stored_forms_that_are_not_well_formed() {
             assert!(!well_formed(&records, &ROWS), "{place} {byte}");
         }
     }
-    for place in 0..16 {
+    for place in 0..32 {
         let mut rows = ROWS;
-        rows[place] = 4;
+        rows[place] = if place % 2 == 0 { 4 } else { 1 };
         assert!(!well_formed(&RECORDS, &rows));
     }
 }

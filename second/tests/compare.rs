@@ -1,6 +1,6 @@
 //! plain against fast on random jobs of every family: every field of the answer and every byte of the lent memory.
 
-use second::generate::{job, lent, Family};
+use second::generate::{compiled, job, lent, Family};
 use second::job::{Answer, Job, Lent, Node};
 use second::{fast, plain};
 use std::collections::BTreeMap;
@@ -17,7 +17,7 @@ fn enough() -> Lent {
     Lent {
         nodes: (0..10_240).map(node).collect(),
         records: vec![0x5A; 80],
-        rows: vec![0xA5; 32_768],
+        rows: vec![0xA5; 65_536],
     }
 }
 
@@ -50,7 +50,7 @@ fn compare(family: Family, jobs: u64) -> BTreeMap<u8, u64> {
         let answer = same(&job, &ample);
         *seen.entry(number(answer)).or_default() += 1;
         let needed = match answer {
-            Answer::Accepted(totals) => (totals.nodes, 4 * job.order.len(), totals.rows),
+            Answer::Accepted(totals) => (totals.nodes, 4 * job.order.len(), 2 * totals.rows),
             Answer::Refused(_) => (1, 1, 1),
         };
         let answer = same(&job, &lent(&job, SEED, index, needed));
@@ -147,4 +147,32 @@ fn columns() {
     reached(&compare(Family::ColumnsAround, 15), &[7]);
     let dense = compare(Family::ColumnsDense, 8);
     assert!(dense.keys().all(|number| matches!(number, 0 | 9..=11)));
+}
+
+/// Cells of more than eight outputs. The same sheets under every L are cut in many ways.
+#[test]
+fn many_outputs() {
+    let ample = enough();
+    reached(&compare(Family::NineRails, 3), &[0]);
+    let mut narrow = job(Family::NineRails, SEED, 0);
+    narrow.cell_outputs = 8;
+    assert_eq!(same(&narrow, &ample), Answer::Refused(8));
+    reached(&compare(Family::ManyOutputs, 30), &[0, 9, 10]);
+    let wide = (0..).map(|index| job(Family::ManyOutputs, SEED, index));
+    let mut jobs: Vec<Job> = wide.filter(|job| job.order.len() <= 16).take(10).collect();
+    jobs.extend((0..20).map(|index| job(Family::Medium, SEED, index)));
+    let (mut accepted, mut above) = ([0; 17], 0);
+    for limit in 1..=16 {
+        for job in &mut jobs {
+            job.cell_outputs = limit;
+            if let Answer::Accepted(_) = same(job, &ample) {
+                accepted[limit as usize] += 1;
+                let (_, rows) = compiled(job).expect("accepted");
+                above += usize::from(rows.chunks_exact(2).any(|row| row[1] != 0));
+            }
+        }
+    }
+    println!("accepted by L {accepted:?}, {above} with rows above 255");
+    assert!(accepted[4..].iter().all(|&count| count > 5), "{accepted:?}");
+    assert!(above > 20, "{above}");
 }

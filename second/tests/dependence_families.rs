@@ -68,7 +68,7 @@ fn refusals() -> impl FnMut(&Job) -> u8 {
     let mut lent = Lent {
         nodes: vec![Node::default(); 10_240],
         records: vec![0; 80],
-        rows: vec![0; 32_768],
+        rows: vec![0; 65_536],
     };
     move |job| match compiler.compile(job, &mut lent) {
         Answer::Refused(number) => number,
@@ -85,7 +85,7 @@ fn six_in_fewer_cases() {
             Family::LimitFewFree | Family::LimitManyFree | Family::LimitNamed => 300,
             Family::Columns512 | Family::Columns513 | Family::ColumnsAround => 200,
             Family::ColumnsDense => 200,
-            Family::LimitStop => 300,
+            Family::LimitStop | Family::NineRails => 300,
             _ => 4_000,
         };
         for index in 0..jobs {

@@ -35,7 +35,7 @@ fn compile_allocates_nothing() {
     let mut lent = Lent {
         nodes: vec![Node::default(); 10_000],
         records: vec![0; 80],
-        rows: vec![0; 32_768],
+        rows: vec![0; 65_536],
     };
     let mut full = Job {
         inputs: 12,

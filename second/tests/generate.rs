@@ -1,22 +1,22 @@
-//! The generator: same seed same job, undamaged families in order, each fault present, column counts as promised.
+//! The generator: same seed same job, undamaged families in order, each fault present, column counts as promised. Cells of many
+//! outputs and cascades made by hand are in the folder beside.
 
 mod forced;
+#[path = "generate/outputs.rs"]
+mod outputs;
 
 use forced::forced;
 use second::book::{well_formed, Book, Call, Said};
-use second::generate::{
-    block, calls, cascade, damage, job, known_but, lent, made, Family, Fault, Random, Rows, Shape,
-};
+use second::generate::{block, calls, damage, job, known_but, lent, made, Family, Fault, Random};
 use second::job::{Answer, Job, Lent, Node};
 use second::plain;
-use second::stored;
 use std::collections::BTreeSet;
 
 /// The refusals 1 to 6 that fit a job, each judged alone where that has a meaning.
 fn faults(job: &Job) -> BTreeSet<u8> {
     let mut found = BTreeSet::new();
     let (n, m) = (job.inputs, job.outputs);
-    let limits = (2..=12).contains(&job.cell_inputs) && (1..=8).contains(&job.cell_outputs);
+    let limits = (2..=12).contains(&job.cell_inputs) && (1..=16).contains(&job.cell_outputs);
     let counts = (1..=12).contains(&n) && (1..=8).contains(&m);
     if !limits || !counts {
         found.insert(1);
@@ -97,7 +97,7 @@ fn refusal(job: &Job) -> u8 {
     let mut lent = Lent {
         nodes: vec![Node::default(); 10_240],
         records: vec![0; 80],
-        rows: vec![0; 32_768],
+        rows: vec![0; 65_536],
     };
     match plain::compile(job, &mut lent) {
         Answer::Refused(number) => number,
@@ -128,7 +128,8 @@ fn undamaged_families_are_in_order() {
         .into_iter()
         .filter(|family| !Family::REFUSED.contains(family))
     {
-        for index in 0..300 {
+        let many = [Family::NineRails, Family::ManyOutputs].contains(&family);
+        for index in 0..if many { 60 } else { 300 } {
             let job = job(family, 11, index);
             assert!(faults(&job).is_empty(), "{family:?} {index}");
         }
@@ -241,6 +242,7 @@ fn tight_has_no_cut_list_and_loose_has_one() {
 fn lent_memory_is_short_exact_and_long() {
     let job = job(Family::Medium, 1, 1);
     let mut seen = BTreeSet::new();
+    let (mut one_short, mut half) = (false, false);
     for index in 0..200 {
         let memory = lent(&job, 1, index, (30, 40, 50));
         let lengths = [
@@ -249,11 +251,13 @@ fn lent_memory_is_short_exact_and_long() {
             (memory.rows.len(), 50),
         ];
         for (which, (length, needed)) in lengths.into_iter().enumerate() {
-            assert!(length + 1 >= needed);
+            assert!(length >= needed / 2);
             seen.insert((which, length.cmp(&needed)));
+            one_short |= length + 1 == needed;
+            half |= length == needed / 2;
         }
     }
-    assert_eq!(seen.len(), 9);
+    assert!(seen.len() == 9 && one_short && half);
     assert!(lent(&job, 1, 1, (0, 0, 0)).nodes.len() < 100);
 }
 
@@ -261,15 +265,28 @@ fn lent_memory_is_short_exact_and_long() {
 fn blocks_are_well_formed_and_damage_shows() {
     let mut counts = BTreeSet::new();
     let mut spoilt = 0;
+    // Row bytes of odd length, and rows that are too large by their high byte or by their low byte alone.
+    let (mut odd, mut high_byte, mut low_byte) = (0, 0, 0);
     for index in 0..2_000 {
-        let (records, rows) = block(9, index);
-        assert!(well_formed(&records, &rows), "{index}");
+        let (records, whole) = block(9, index);
+        assert!(well_formed(&records, &whole), "{index}");
         counts.insert(records.len() / 4);
-        let (records, rows) = damage(9, index, &(records, rows));
-        spoilt += usize::from(!well_formed(&records, &rows));
+        let (damaged, rows) = damage(9, index, &(records.clone(), whole.clone()));
+        let formed = well_formed(&damaged, &rows);
+        spoilt += usize::from(!formed);
+        odd += rows.len() % 2;
+        if !formed && damaged == records && rows.len() == whole.len() {
+            let differs = |byte: usize| (byte..rows.len()).step_by(2).any(|b| rows[b] != whole[b]);
+            high_byte += usize::from(differs(1));
+            low_byte += usize::from(!differs(1));
+        }
     }
     assert_eq!(counts.len(), 20);
     assert!(spoilt > 1_800, "{spoilt}");
+    assert!(
+        odd > 100 && high_byte > 50 && low_byte > 50,
+        "{odd} {high_byte} {low_byte}"
+    );
 }
 
 #[test]
@@ -285,7 +302,7 @@ fn call_lists_meet_each_answer() {
         for call in &calls {
             match book.enter(call) {
                 Said::Refused(number) => {
-                    crowded += usize::from(number == 11 && row_memory > 40_000);
+                    crowded += usize::from(number == 11 && row_memory > 65_536);
                     refused.insert(number);
                 }
                 Said::Idle => idle += 1,
@@ -298,40 +315,6 @@ fn call_lists_meet_each_answer() {
     let counts = (went, idle, broken_off, crowded);
     let enough = went > 1_000 && idle > 500 && broken_off > 30 && crowded > 0;
     assert!(enough, "{counts:?}");
-}
-
-#[test]
-fn cascades_by_hand_are_as_said() {
-    let (mut most, mut least) = (0, usize::MAX);
-    let (mut no_inputs, mut no_outputs, mut eight_rails, mut not_reached) = (0, 0, 0, 0);
-    for (shape, rows) in Shape::ALL.map(|s| Rows::ALL.map(|r| (s, r))).concat() {
-        for index in 0..100 {
-            let (records, bytes) = cascade(shape, rows, 3, index);
-            assert!(stored::well_formed(&records, &bytes), "{shape:?} {rows:?}");
-            let cells = stored::cells(&records).expect("well formed");
-            let inputs = cells.iter().map(|cell| cell.inputs.len()).sum::<usize>();
-            match shape {
-                Shape::Any => assert_eq!(records, block(3, index).0),
-                Shape::ManyCells => {
-                    assert!((12..=20).contains(&cells.len()) && records.len() == 4 * cells.len())
-                }
-                Shape::OneCell => assert_eq!((cells.len(), bytes.len()), (1, 4_096)),
-                Shape::Largest => {
-                    assert_eq!(inputs, 12);
-                    most = most.max(bytes.len());
-                    least = least.min(bytes.len());
-                }
-            }
-            no_inputs += cells.iter().filter(|c| c.inputs.is_empty()).count();
-            no_outputs += cells.iter().filter(|c| c.outputs.is_empty()).count();
-            eight_rails += cells.iter().filter(|c| c.lower_rails == 8).count();
-            // The cell below the first has more rail words than the first has rows.
-            not_reached += usize::from(cells[0].rows < 1 << cells[0].lower_rails);
-        }
-    }
-    assert_eq!((least, most), (10_498, 11_521));
-    let found = [no_inputs, no_outputs, eight_rails, not_reached];
-    assert!(found.iter().all(|&count| count > 400), "{found:?}");
 }
 
 #[test]

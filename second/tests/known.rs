@@ -2,7 +2,7 @@
 
 use second::cases;
 use second::generate::{
-    compiled, damage, job, known_but, made, Family, Random, StoredBlock as Cascade,
+    compiled, damage, job, known_but, made, row_bytes, Family, Random, StoredBlock as Cascade,
 };
 use second::known::{
     fillings, fused, plain, sets, sets_with, submasks, two_rails, Mistake, Runs, Values, UNKNOWN,
@@ -75,11 +75,7 @@ fn the_examples_of_document_003() {
     // p x1, and then f = p or x1 and x3.
     let cascade = (
         records(&[(0, 0, 0), (1, 1, 2), (2, 0, 0), (128, 1, 0)]),
-        [
-            [0b00, 0b10, 0b01, 0b01].as_slice(),
-            &[0, 0, 0, 1, 1, 1, 1, 1],
-        ]
-        .concat(),
+        row_bytes(&[0b00, 0b10, 0b01, 0b01, 0, 0, 0, 1, 1, 1, 1, 1]),
     );
     // x1x2x3 = 00u, u11 and u1u give 0, 1 and u.
     exact(&cascade, 0b011, 0b000, &[0]);
@@ -95,28 +91,72 @@ fn the_examples_of_document_003() {
 #[test]
 fn rails_that_go_together() {
     // x1 goes to rails x1 and not x1; y1 is whether they differ: always.
-    let cascade = (records(&[(0, 1, 2), (128, 1, 0)]), vec![1, 2, 0, 1, 1, 0]);
+    let made = |list: &[(u8, u8, u8)], rows: &[u16]| (records(list), row_bytes(rows));
+    let cascade = made(&[(0, 1, 2), (128, 1, 0)], &[1, 2, 0, 1, 1, 0]);
     exact(&cascade, 0, 0, &[1]);
     let safe = two_rails(&cascade.0, &cascade.1, 0, 0);
     assert_eq!(safe, shown(&[2]));
     // y1 is the rail, and word 0 of it is never reached.
-    let cascade = (records(&[(0, 1, 1), (128, 1, 0)]), vec![1, 1, 0, 1]);
+    let cascade = made(&[(0, 1, 1), (128, 1, 0)], &[1, 1, 0, 1]);
     exact(&cascade, 0, 0, &[1]);
     // A cell without inputs, then one without outputs: y1 is certain, the others are lacking.
-    let cascade = (records(&[(128, 1, 0), (5, 1, 0)]), vec![1, 0, 0]);
+    let cascade = made(&[(128, 1, 0), (5, 1, 0)], &[1, 0, 0]);
     exact(&cascade, 0, 0xFFFF, &[1]);
     // Output 7 alone, which is input 11.
-    let cascade = (records(&[(11, 0, 0), (135, 1, 0)]), vec![0, 1]);
+    let cascade = made(&[(11, 0, 0), (135, 1, 0)], &[0, 1]);
     exact(&cascade, 0x7FF, 0xFFF, &[]);
     exact(&cascade, 0x800, 0x800, &[2, 2, 2, 2, 2, 2, 2, 1]);
     exact(&cascade, 0x800, 0x7FF, &[2, 2, 2, 2, 2, 2, 2, 0]);
+}
+
+/// x1 to x12 go to twelve rails, each word to its own; y1 is the exclusive or of the highest rail and the lowest, y2 whether all
+/// are 1.
+#[test]
+fn twelve_rails() {
+    let mut list: Vec<(u8, u8, u8)> = (0..12).map(|x| (x, 0, 0)).collect();
+    list[11] = (11, 1, 12);
+    list.extend([(128, 0, 0), (129, 1, 0)]);
+    let words = 0..4_096u16;
+    let lower = words
+        .clone()
+        .map(|rail| ((rail ^ rail >> 11) & 1) << 1 | u16::from(rail == 4_095));
+    let rows: Vec<u16> = words.chain(lower).collect();
+    let cascade = (records(&list), row_bytes(&rows));
+    exact(&cascade, 0, 0, &[2, 2]);
+    // x1, input 0, is the highest rail, x12 the lowest.
+    exact(&cascade, 0x801, 0x801, &[0, 2]);
+    exact(&cascade, 0x801, 0x800, &[1, 0]);
+    exact(&cascade, 0x7FE, 0x7FE, &[2, 2]);
+    exact(&cascade, 0x002, 0x000, &[2, 0]);
+    exact(&cascade, 0xFFF, 0xFFF, &[0, 1]);
+}
+
+/// x1 goes to y1 to y4 and to twelve rails, as 0000 and 0FF or 1111 and F00; y5 is whether the rail word is one of these two.
+#[test]
+fn sixteen_outputs() {
+    let list = [
+        (0, 0, 0),
+        (128, 0, 0),
+        (129, 0, 0),
+        (130, 0, 0),
+        (131, 1, 12),
+        (132, 1, 0),
+    ];
+    let lower = (0..4_096u16).map(|rail| u16::from([0x0FF, 0xF00].contains(&rail)));
+    let rows: Vec<u16> = [0x00FF, 0xFF00].into_iter().chain(lower).collect();
+    let cascade = (records(&list), row_bytes(&rows));
+    exact(&cascade, 0, 0, &[2, 2, 2, 2, 1]);
+    exact(&cascade, 1, 0, &[0, 0, 0, 0, 1]);
+    exact(&cascade, 1, 1, &[1, 1, 1, 1, 1]);
+    let safe = two_rails(&cascade.0, &cascade.1, 0, 0);
+    assert_eq!(safe, shown(&[2, 2, 2, 2, 2]));
 }
 
 /// `plain`, which fills only inputs that the cascade uses, against every word that agrees with the known inputs.
 #[test]
 fn plain_against_every_word() {
     let mut random = Random::new(1, SEED, 0);
-    let small = cascades(400, 20).filter(|(_, rows)| rows.len() <= 64);
+    let small = cascades(400, 20).filter(|(_, rows)| rows.len() <= 128);
     let mut tried = 0;
     for cascade in small.take(60) {
         let (records, rows) = &cascade;
@@ -170,7 +210,7 @@ fn add(sums: &mut [u64; 4], counts: [u64; 4]) {
 fn every_mask_of_small_cascades() {
     let mut random = Random::new(2, SEED, 0);
     let mut sums = [0; 4];
-    let small = |cascade: &Cascade| cascade.1.len() <= 300;
+    let small = |cascade: &Cascade| cascade.1.len() <= 600;
     let mut tried = 0;
     for cascade in cascades(2_000, 30).filter(small).step_by(2) {
         let runs = Runs::of(&cascade.0, &cascade.1).expect("well formed");
@@ -292,8 +332,8 @@ fn not_well_formed_is_12() {
         changed[place] = value;
         agrees(&records, &changed);
     }
-    for length in 0..40 {
-        agrees(&records, &[0; 40][..length]);
+    for length in 0..70 {
+        agrees(&records, &[0; 70][..length]);
         agrees(&[0; 100][..length], &rows);
     }
 }

@@ -8,7 +8,7 @@ fn enough() -> Lent {
     Lent {
         nodes: vec![Node::default(); 10_240],
         records: vec![0; 80],
-        rows: vec![0; 32_768],
+        rows: vec![0; 65_536],
     }
 }
 
@@ -17,7 +17,7 @@ fn with(job: &Job, mistake: Mistake) -> (Answer, Vec<u8>, Vec<u8>) {
     let mut lent = enough();
     let answer = compile_with(job, &mut lent, mistake);
     let (records, rows) = match answer {
-        Answer::Accepted(totals) => (4 * job.order.len(), totals.rows),
+        Answer::Accepted(totals) => (4 * job.order.len(), 2 * totals.rows),
         Answer::Refused(_) => (0, 0),
     };
     lent.records.truncate(records);
@@ -46,7 +46,7 @@ fn no_mistake_is_the_compiler() {
     let (same, records, rows) = with(&cases::a(), Mistake::None);
     assert_eq!(answer, same);
     assert_eq!(lent.records[..24], records);
-    assert_eq!(lent.rows[..16], rows);
+    assert_eq!(lent.rows[..32], rows);
 }
 
 #[test]
@@ -62,10 +62,10 @@ fn free_outputs_filled_with_0_before_merging() {
     };
     let (right, _, rows) = accepted(&job, Mistake::None);
     assert_eq!(widths(&job, &right), [1, 1, 1, 1]);
-    assert_eq!((right.bits, rows), (4, vec![0, 0, 1]));
+    assert_eq!((right.bits, rows), (4, vec![0, 0, 0, 0, 1, 0]));
     let (wrong, _, rows) = accepted(&job, Mistake::FreeAsZero);
     assert_eq!(widths(&job, &wrong), [2, 2, 2, 1]);
-    assert_eq!((wrong.bits, rows), (8, vec![0, 1, 0, 1]));
+    assert_eq!((wrong.bits, rows), (8, vec![0, 0, 1, 0, 0, 0, 1, 0]));
     // Case A itself would be refused, and B have a width of 5.
     let (answer, ..) = with(&cases::a(), Mistake::FreeAsZero);
     assert_eq!(answer, Answer::Refused(8));
@@ -87,12 +87,12 @@ fn compatibility_tested_on_the_next_output_only() {
     assert_eq!(table(&job), Ok(vec![2, 2, 1, 0]));
     let (right, records, rows) = accepted(&job, Mistake::None);
     assert_eq!(widths(&job, &right), [2, 2, 1]);
-    assert_eq!(rows, [1, 0]);
+    assert_eq!(rows, [1, 0, 0, 0]);
     let (wrong, same_records, rows) = accepted(&job, Mistake::NextOutputOnly);
     assert_eq!(widths(&job, &wrong), [1, 1, 1]);
     assert_eq!(records, same_records);
     // y2, the lowest bit, is 1 for x1 = 1, where the sheet forces 0.
-    assert_eq!(rows, [1, 1]);
+    assert_eq!(rows, [1, 0, 1, 0]);
 }
 
 #[test]
@@ -108,13 +108,13 @@ fn cutting_greedily_at_the_longest_cell() {
         sheet: vec![],
     };
     let (right, records, rows) = accepted(&job, Mistake::None);
-    assert_eq!((right.cells, right.bits, rows.len()), (2, 4, 4));
+    assert_eq!((right.cells, right.bits, rows.len()), (2, 4, 8));
     assert_eq!(
         records,
         [129, 0, 0, 0, 0, 1, 0, 0, 1, 0, 0, 0, 128, 1, 0, 0]
     );
     let (wrong, records, rows) = accepted(&job, Mistake::GreedyCut);
-    assert_eq!((wrong.cells, wrong.bits, rows.len()), (2, 5, 5));
+    assert_eq!((wrong.cells, wrong.bits, rows.len()), (2, 5, 10));
     assert_eq!(
         records,
         [129, 0, 0, 0, 0, 0, 0, 0, 1, 1, 0, 0, 128, 1, 0, 0]
@@ -160,10 +160,10 @@ fn the_later_record_decides() {
     job.sheet.rotate_left(8);
     let right = with(&job, Mistake::None);
     assert_eq!(right, with(&cases::s(), Mistake::None));
-    assert_eq!(right.2, [1, 1, 0, 0]);
+    assert_eq!(right.2, [1, 0, 1, 0, 0, 0, 0, 0]);
     // The wash line is last, so the valve is opened with the lid open.
     let (_, _, rows) = accepted(&job, Mistake::LaterDecides);
-    assert_eq!(rows, [0, 1, 0, 1]);
+    assert_eq!(rows, [0, 0, 1, 0, 0, 0, 1, 0]);
     // With the lid-open line last the mistake does not show.
     assert_eq!(with(&cases::s(), Mistake::LaterDecides), right);
 }
@@ -210,9 +210,9 @@ fn the_last_matching_record_alone_counts() {
         order: vec![0, 128, 129],
         sheet: vec![0, 0, 0, 0, 0, 1, 0, 0, 0, 0, 0, 0, 0, 2, 0, 0],
     };
-    for wrong_rows in [[1, 1], [2, 2]] {
+    for wrong_rows in [[1, 0, 1, 0], [2, 0, 2, 0]] {
         let (_, _, rows) = accepted(&job, Mistake::None);
-        assert_eq!(rows, [3, 3]);
+        assert_eq!(rows, [3, 0, 3, 0]);
         let (_, _, rows) = accepted(&job, Mistake::LastMatching);
         assert_eq!(rows, wrong_rows);
         job.sheet.rotate_left(8);
@@ -230,5 +230,39 @@ fn a_clash_of_neighbours_alone() {
         let (answer, ..) = with(&job, Mistake::NextRecordOnly);
         assert_eq!(answer == Answer::Refused(5), beside);
         job.sheet.rotate_left(8);
+    }
+}
+
+/// Mistakes with rows of two bytes, on rows above 255; case A, whose rows are below 256, shows the first of them alone.
+#[test]
+fn bytes_of_rows() {
+    let job = cases::fifteen_outputs();
+    let (right, _, rows) = accepted(&job, Mistake::None);
+    let (totals, _, swapped) = accepted(&job, Mistake::HighByteFirst);
+    assert_eq!(totals, right);
+    let pairs = rows.chunks_exact(2).flat_map(|row| [row[1], row[0]]);
+    assert!(swapped != rows && pairs.eq(swapped));
+    let (totals, _, low) = accepted(&job, Mistake::LowByteAlone);
+    assert_eq!(totals, right);
+    let pairs = rows.chunks_exact(2).flat_map(|row| [row[0], 0]);
+    assert!(low != rows && pairs.eq(low));
+    let a = with(&cases::a(), Mistake::None);
+    assert_ne!(with(&cases::a(), Mistake::HighByteFirst), a);
+    assert_eq!(with(&cases::a(), Mistake::LowByteAlone), a);
+}
+
+/// Case J: 16 to 31 bytes are room for sixteen rows of one byte.
+#[test]
+fn row_memory_counted_in_rows() {
+    for bytes in 0..40 {
+        let answer = |mistake| {
+            let mut lent = enough();
+            lent.rows.truncate(bytes);
+            compile_with(&cases::a(), &mut lent, mistake)
+        };
+        let right = answer(Mistake::None);
+        assert_eq!(right == Answer::Refused(11), bytes < 32);
+        let wrong = answer(Mistake::MemoryInRows);
+        assert_eq!(wrong == Answer::Refused(11), bytes < 16);
     }
 }

@@ -28,6 +28,20 @@ fn the_listing_of_case_a() {
     assert_eq!(run(LIST, &["fast"], &raw(&cases::a())), listing);
 }
 
+/// Values above 255 are printed, not bytes.
+#[test]
+fn the_listing_of_fifteen_outputs() {
+    for arguments in [&[][..], &["fast"]] {
+        let text = run(LIST, arguments, &raw(&cases::fifteen_outputs()));
+        let mut expected = String::from("cell 20 4");
+        for address in 0..512 {
+            let column = address / 2;
+            expected += &format!(" {}", column / 2 * 256 + column);
+        }
+        assert_eq!(text.lines().nth(20), Some(&expected[..]));
+    }
+}
+
 #[test]
 fn bad_input_is_refused() {
     assert_eq!(run(LIST, &[], b""), "refused 1\n");
@@ -47,7 +61,11 @@ fn bad_input_is_refused() {
 #[test]
 fn listings_agree() {
     for index in 0..4_000 {
-        let family = [Family::SmallOrders, Family::StopSome][index as usize % 2];
+        let family = match index % 2 {
+            _ if index % 200 == 1 => Family::ManyOutputs,
+            0 => Family::SmallOrders,
+            _ => Family::StopSome,
+        };
         let mut bytes = raw(&job(family, 5, index / 2));
         if index % 3 == 0 {
             bytes.truncate(bytes.len() * (index as usize % 7) / 7);

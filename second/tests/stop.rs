@@ -30,7 +30,8 @@ fn values(n: u64, m: u64, lines: &[Line]) -> Vec<String> {
     let lines: Vec<String> = table.chunks(1 << n).map(line).collect();
     let records = &lent.records[..4 * job.order.len()];
     for word in 0..1 << n {
-        let emitted = stored::emit(records, &lent.rows[..totals.rows], word).expect("well formed");
+        let emitted =
+            stored::emit(records, &lent.rows[..2 * totals.rows], word).expect("well formed");
         for (values, emitted) in lines.iter().zip(emitted) {
             let value = values.as_bytes()[usize::from(word)];
             let emitted = if emitted == Some(true) { b'1' } else { b'0' };

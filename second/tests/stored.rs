@@ -1,11 +1,19 @@
-//! The stored form: case A's cascade, every single way of being not well formed, reading, writing, emitting.
+//! The stored form: case A's cascade, every single way of being not well formed, reading, writing, emitting. Values and numbers of
+//! rows are in the folder beside.
+
+#[path = "stored/rows.rs"]
+mod rows;
 
 use second::stored::{cells, emit, rail_words, read, well_formed, write, Cascade, Record};
 
 const A_RECORDS: [u8; 24] = [
     0x00, 0, 0, 0, 0x01, 0, 0, 0, 0x02, 1, 2, 0, 0x80, 0, 0, 0, 0x03, 0, 0, 0, 0x81, 1, 0, 0,
 ];
-const A_ROWS: [u8; 16] = [0, 1, 2, 2, 0, 3, 2, 2, 1, 1, 0, 0, 2, 3, 2, 2];
+#[rustfmt::skip]
+const A_ROWS: [u8; 32] = [
+    0, 0, 1, 0, 2, 0, 2, 0, 0, 0, 3, 0, 2, 0, 2, 0,
+    1, 0, 1, 0, 0, 0, 0, 0, 2, 0, 3, 0, 2, 0, 2, 0,
+];
 
 /// Table 1 of document 000, x1 most significant: y1 then y2, `d` for free.
 const TABLE: [&str; 16] = [
@@ -14,6 +22,12 @@ const TABLE: [&str; 16] = [
 
 fn records(list: &[(u8, u8, u8)]) -> Vec<u8> {
     list.iter().flat_map(|&(v, c, r)| [v, c, r, 0]).collect()
+}
+
+/// The bytes of rows.
+fn bytes(rows: &[u16]) -> Vec<u8> {
+    let pair = |row: &u16| [(row & 255) as u8, (row >> 8) as u8];
+    rows.iter().flat_map(pair).collect()
 }
 
 struct Dice(u64);
@@ -54,14 +68,14 @@ fn case_a_survives_both_ways() {
         rails: 2,
     };
     assert_eq!((cascade.records.len(), cascade.records[2]), (6, third));
-    let (mut stored, mut rows) = ([7; 30], [7; 20]);
+    let (mut stored, mut rows) = ([7; 30], [7; 35]);
     assert_eq!(write(&cascade, &mut stored, &mut rows), Ok(()));
     assert_eq!(
         (&stored[..24], &stored[24..]),
         (&A_RECORDS[..], &[7; 6][..])
     );
-    assert_eq!((&rows[..16], &rows[16..]), (&A_ROWS[..], &[7; 4][..]));
-    assert_eq!(read(&stored[..24], &rows[..16]), Ok(cascade));
+    assert_eq!((&rows[..32], &rows[32..]), (&A_ROWS[..], &[7; 3][..]));
+    assert_eq!(read(&stored[..24], &rows[..32]), Ok(cascade));
 }
 
 #[test]
@@ -79,7 +93,7 @@ fn case_a_emits_table_1() {
         assert_eq!(emitted[2..], [None; 6]);
         let address = usize::from((word & 7).reverse_bits() >> 13);
         let rails = rail_words(&A_RECORDS, &A_ROWS, word).unwrap();
-        assert_eq!(rails, [u16::from(A_ROWS[address]), 0]);
+        assert_eq!(rails, [u16::from(A_ROWS[2 * address]), 0]);
         assert_eq!(emit(&A_RECORDS, &A_ROWS, word | 0xfff0), Some(emitted));
     }
     assert_eq!(emit(&A_RECORDS, &A_ROWS[1..], 0), None);
@@ -90,35 +104,27 @@ fn case_a_emits_table_1() {
 fn small_cells() {
     // A cell without inputs has one row; one without outputs has rows 0.
     let no_inputs = records(&[(128, 1, 0), (0, 1, 0), (129, 0, 0), (1, 1, 0)]);
-    assert!(well_formed(&no_inputs, &[1, 0, 0, 0, 1]));
-    let emitted = emit(&no_inputs, &[1, 0, 0, 0, 1], 2).unwrap();
+    assert!(well_formed(&no_inputs, &bytes(&[1, 0, 0, 0, 1])));
+    let emitted = emit(&no_inputs, &bytes(&[1, 0, 0, 0, 1]), 2).unwrap();
     assert_eq!(emitted[..3], [Some(true), Some(true), None]);
-    assert!(!well_formed(&no_inputs, &[2, 0, 0, 0, 1]));
-    assert!(!well_formed(&no_inputs, &[1, 0, 1, 0, 1]));
-    assert!(!well_formed(&no_inputs, &[1, 0, 0, 0, 2]));
-    // Eight outputs: every row byte is below 2^8.
+    assert!(!well_formed(&no_inputs, &bytes(&[2, 0, 0, 0, 1])));
+    assert!(!well_formed(&no_inputs, &bytes(&[1, 0, 1, 0, 1])));
+    assert!(!well_formed(&no_inputs, &bytes(&[1, 0, 0, 0, 2])));
+    // Eight outputs: every low byte will do, and no high byte but 0.
     let mut eight: Vec<_> = (128..136).map(|v| (v, 0, 0)).collect();
     eight[7].1 = 1;
-    assert!(well_formed(&records(&eight), &[255]));
-    assert!(!well_formed(&records(&eight), &[]));
-    assert!(!well_formed(&records(&eight), &[255, 0]));
+    assert!(well_formed(&records(&eight), &[255, 0]));
+    for wrong in [&[][..], &[255], &[255, 1], &[0, 1], &[255, 0, 0], &[0; 4]] {
+        assert!(!well_formed(&records(&eight), wrong));
+    }
     // All twenty variables.
     let mut all: Vec<_> = (0..12).chain(128..136).map(|v| (v, 0, 0)).collect();
     all[19].1 = 1;
-    assert!(well_formed(&records(&all), &[255; 4096]));
+    assert!(well_formed(&records(&all), &bytes(&[255; 4096])));
     // Rails alone can fill a cell.
-    let full = records(&[
-        (0, 1, 8),
-        (1, 0, 0),
-        (2, 0, 0),
-        (3, 0, 0),
-        (4, 1, 8),
-        (5, 1, 0),
-    ]);
-    assert!(well_formed(
-        &full,
-        &[[255; 2 + 4096].as_slice(), &[0; 512]].concat()
-    ));
+    let full = records(&[(0, 1, 11), (1, 1, 12), (128, 1, 0)]);
+    let rows = [[2_047; 2].as_slice(), &[4_095; 4_096], &[1; 4_096]].concat();
+    assert!(well_formed(&full, &bytes(&rows)));
 }
 
 /// Record bytes that are not well formed whatever the rows.
@@ -145,14 +151,19 @@ fn bad_records() -> Vec<Vec<u8>> {
         change(4 * record + 2, &[1, 2, 255]);
     }
     change(4 * 5 + 1, &[0]);
-    change(4 * 5 + 2, &[1, 8, 9, 64, 255]);
-    // Too many rails above or below a cell: 9 and more outputs.
-    change(4 * 2 + 2, &[9, 12, 13, 63, 64, 65, 128, 255]);
-    // Nine outputs: one variable and eight rails.
-    bad.push(records(&[(0, 0, 0), (128, 1, 8), (1, 1, 0)]));
-    // Thirteen inputs: eight rails and five variables.
+    change(4 * 5 + 2, &[1, 8, 9, 16, 64, 255]);
+    // Too many rails above a cell, or 17 and more outputs.
+    change(4 * 2 + 2, &[12, 13, 16, 17, 63, 64, 65, 128, 255]);
+    // Seventeen outputs: five variables and twelve rails, which the cell below could have.
+    let mut many: Vec<_> = (128..133).map(|v| (v, 0, 0)).collect();
+    many[4] = (132, 1, 12);
+    many.push((133, 1, 0));
+    bad.push(records(&many));
+    // Thirteen inputs: eight rails and five variables, twelve and one, thirteen.
     let five = [(1, 0, 0), (2, 0, 0), (3, 0, 0), (4, 0, 0), (5, 1, 0)];
     bad.push(records(&[&[(0, 1, 8)], &five[..]].concat()));
+    bad.push(records(&[(0, 1, 12), (1, 1, 0)]));
+    bad.push(records(&[(0, 1, 13), (128, 1, 0)]));
     // Twenty-one records.
     let mut many: Vec<_> = (0..12)
         .chain(128..136)
@@ -172,14 +183,15 @@ fn each_way_of_being_not_well_formed_is_12() {
         assert_eq!(read(&bytes, &A_ROWS), Err(12), "{bytes:?}");
         assert_eq!(emit(&bytes, &A_ROWS, 0), None);
     }
-    for length in (0..40).filter(|length| *length != 16) {
-        assert_eq!(read(&A_RECORDS, &[0; 40][..length]), Err(12));
+    for length in (0..70).filter(|length| *length != 32) {
+        assert_eq!(read(&A_RECORDS, &[0; 70][..length]), Err(12));
     }
-    for place in 0..16 {
+    for place in 0..32 {
         for value in 0..=255 {
             let mut rows = A_ROWS;
             rows[place] = value;
-            assert_eq!(read(&A_RECORDS, &rows).is_ok(), value < 4);
+            let most = if place % 2 == 0 { 3 } else { 0 };
+            assert_eq!(read(&A_RECORDS, &rows).is_ok(), value <= most);
         }
     }
 }
@@ -189,8 +201,12 @@ fn writing_refuses_12_then_10_then_11() {
     let good = read(&A_RECORDS, &A_ROWS).unwrap();
     let mut short = good.clone();
     short.rows.pop();
+    let mut shorter = short.clone();
+    shorter.rows.pop();
     let mut high = good.clone();
-    high.rows[3] = 4;
+    high.rows[6] = 4;
+    let mut higher = good.clone();
+    higher.rows[7] = 1;
     let mut open = good.clone();
     open.records[5].cut = false;
     let mut rails = good.clone();
@@ -201,22 +217,26 @@ fn writing_refuses_12_then_10_then_11() {
     };
     let many = Cascade {
         records: vec![good.records[5]; 21],
-        rows: vec![0; 21],
+        rows: vec![0; 42],
     };
-    for bad in [&short, &high, &open, &rails, &empty, &many] {
-        for (record_bytes, row_bytes) in [(100, 100), (24, 0), (0, 16), (0, 0)] {
+    for bad in [
+        &short, &shorter, &high, &higher, &open, &rails, &empty, &many,
+    ] {
+        for (record_bytes, row_bytes) in [(100, 100), (24, 0), (0, 32), (0, 0)] {
             let (mut stored, mut rows) = (vec![7; record_bytes], vec![7; row_bytes]);
             assert_eq!(write(bad, &mut stored, &mut rows), Err(12));
             assert_eq!((stored, rows), (vec![7; record_bytes], vec![7; row_bytes]));
         }
     }
     for (record_bytes, row_bytes, answer) in [
-        (23, 16, Err(10)),
+        (23, 32, Err(10)),
         (0, 100, Err(10)),
-        (23, 15, Err(10)),
-        (24, 15, Err(11)),
+        (23, 31, Err(10)),
+        (24, 16, Err(11)),
+        (24, 31, Err(11)),
         (100, 0, Err(11)),
-        (24, 16, Ok(())),
+        (24, 32, Ok(())),
+        (24, 33, Ok(())),
     ] {
         let (mut stored, mut rows) = (vec![7; record_bytes], vec![7; row_bytes]);
         assert_eq!(write(&good, &mut stored, &mut rows), answer);
@@ -251,10 +271,9 @@ fn plain_shape(bytes: &[u8]) -> Option<Vec<(u32, u32)>> {
         shape.push((upper + cell.len() as u32 - outputs, outputs + lower));
         upper = lower;
     }
-    shape
-        .iter()
-        .all(|&(i, o)| i <= 12 && o <= 8)
-        .then_some(shape)
+    let fits = shape.iter().all(|&(i, o)| i <= 12 && o <= 16);
+    let rows = || shape.iter().map(|&(i, _)| 1 << i).sum::<u32>();
+    (fits && rows() <= 32_768).then_some(shape)
 }
 
 fn random_records(dice: &mut Dice) -> Vec<u8> {
@@ -263,7 +282,7 @@ fn random_records(dice: &mut Dice) -> Vec<u8> {
         variables.swap(i, dice.roll(i as u64 + 1) as usize);
     }
     let t = 1 + dice.roll(20) as usize;
-    let (cuts, most) = (1 + dice.roll(8), dice.roll(10));
+    let (cuts, most) = (1 + dice.roll(8), dice.roll(14));
     let mut list = vec![];
     for (place, &variable) in variables[..t].iter().enumerate() {
         let last = place + 1 == t;
@@ -286,8 +305,8 @@ fn random_records_agree_with_the_plain_rules() {
         let mut bytes = random_records(&mut dice);
         for _ in 0..dice.roll(3) {
             let place = dice.roll(bytes.len() as u64) as usize;
-            let values = [0, 1, 2, 4, 8, 11, 12, 127, 128, 135, 136, 255];
-            bytes[place] = values[dice.roll(12) as usize];
+            let values = [0, 1, 2, 4, 8, 11, 12, 16, 127, 128, 135, 136, 255];
+            bytes[place] = values[dice.roll(13) as usize];
         }
         let shape = cells(&bytes).map(|cells| {
             let count = |cell: &second::stored::Cell| {
@@ -311,10 +330,11 @@ fn random_cascades_emit_what_the_row_bits_say() {
         let Some(shape) = plain_shape(&bytes) else {
             continue;
         };
-        let mut rows = vec![];
+        let mut values = vec![];
         for &(inputs, outputs) in &shape {
-            rows.extend((0..1 << inputs).map(|_| dice.roll(1 << outputs) as u8));
+            values.extend((0..1 << inputs).map(|_| dice.roll(1 << outputs) as u16));
         }
+        let rows = self::bytes(&values);
         let word = dice.roll(65_536) as u16;
         let (mut expected, mut rails, mut words) = ([None; 8], String::new(), vec![]);
         let (mut first_row, mut record) = (0, 0);
@@ -334,7 +354,7 @@ fn random_cascades_emit_what_the_row_bits_say() {
             let address = usize::from_str_radix(&format!("0{address}"), 2).unwrap();
             let row = format!(
                 "{:0width$b}",
-                rows[first_row + address],
+                values[first_row + address],
                 width = outputs as usize
             );
             let mut bits = row.chars().take(outputs as usize);

@@ -7,6 +7,9 @@ pub const WIDTHS: usize = 20;
 /// The words of a node table: 10,240 nodes of height, low and high.
 pub const NODE_WORDS: usize = 30_720;
 
+/// The bytes of as many rows as are usable.
+pub const ROW_BYTES: usize = 65_536;
+
 /// The bytes of a bank and of a scan state.
 pub const BANK_BYTES: usize = 651;
 pub const SCAN_BYTES: usize = 85;
@@ -226,8 +229,8 @@ pub fn reduce(job: &Job, widths: &mut [u16; WIDTHS], words: &mut [u16; NODE_WORD
     unsafe { call!(exported::cascade_reduce, job, widths, words) }
 }
 
-/// The whole compiler: where nothing is refused three words a node, the stored records and the rows are written to the front of
-/// the three memories, and the widths at heights 0 to t - 1, then zeros, to the array.
+/// The whole compiler: where nothing is refused three words a node, the stored records and the rows, two bytes each, are written to
+/// the front of the three memories, and the widths at heights 0 to t - 1, then zeros, to the array.
 pub fn compile(
     job: &Job,
     nodes: &mut [u16],
@@ -254,7 +257,23 @@ pub fn compile(
 /// Jobs with numbers of any size, and with orders and sheets of any length and contents, made of a good one.
 pub fn odd_jobs(good: &Job) -> Vec<Job> {
     let mut jobs = Vec::new();
-    for number in [0, 1, 2, 8, 9, 12, 13, 255, 256, 257, 1 << 32, u64::MAX] {
+    for number in [
+        0,
+        1,
+        2,
+        8,
+        9,
+        12,
+        13,
+        16,
+        17,
+        255,
+        256,
+        257,
+        272,
+        1 << 32,
+        u64::MAX,
+    ] {
         for place in 0..4 {
             let mut job = good.clone();
             let numbers = [

@@ -1,4 +1,4 @@
-//! A bank, its scan state and row memory as the bytes that the exported functions are lent.
+//! A bank, its scan state and row memory as the bytes that the exported functions are lent. A row is two of them.
 
 use crate::{exported, StepNumbers, BANK_BYTES, SCAN_BYTES};
 use second::bank::{Bank, Scan};

@@ -2,7 +2,7 @@
 //! and leaves every byte of the lent memory the same, in each function that takes a sheet.
 
 use proved::{compile, reduce, sheet_refusal, sheet_table};
-use proved::{Reduction, Totals, NODE_WORDS, TABLE_BYTES, WIDTHS};
+use proved::{Reduction, Totals, NODE_WORDS, ROW_BYTES, TABLE_BYTES, WIDTHS};
 use second::generate::{arranged, job, Family, Random};
 use second::job::Job;
 use std::collections::BTreeMap;
@@ -43,7 +43,7 @@ impl Memories {
         Memories {
             nodes: words[..nodes].to_vec(),
             records: table[..records].to_vec(),
-            rows: table[..rows].to_vec(),
+            rows: table.iter().cycle().take(rows).copied().collect(),
             widths: std::array::from_fn(|_| random.word()),
             table,
             reduced: std::array::from_fn(|_| random.word()),
@@ -63,12 +63,12 @@ impl Memories {
 
 /// What a job needs, by a compile over enough memory, and then one of the three one too short, all exact, or all longer.
 fn lengths(job: &Job, random: &mut Random) -> [usize; 3] {
-    let most = [NODE_WORDS, 80, TABLE_BYTES];
+    let most = [NODE_WORDS, 80, ROW_BYTES];
     let made = Memories::old(most, random).answers(job).compiled;
     let mut needed = [
         usize::from(made.nodes) * 3,
         4 * job.order.len(),
-        made.rows.into(),
+        2 * usize::from(made.rows),
     ];
     match random.below(8) {
         place @ 0..=2 => needed[place] = needed[place].saturating_sub(1),
@@ -82,7 +82,8 @@ fn lengths(job: &Job, random: &mut Random) -> [usize; 3] {
 fn sheets(family: Family) -> u64 {
     match family {
         Family::SmallFewFree | Family::SmallManyFree | Family::SmallOrders => 2_000,
-        Family::SmallDamaged | Family::StopSome => 3_000,
+        Family::SmallDamaged => 3_000,
+        Family::StopSome => 2_700,
         Family::StopOnly | Family::StopClash | Family::StopDamaged => 1_000,
         Family::Medium | Family::FullRows | Family::FullRowsAnywhere => 700,
         Family::NamedNotDependent | Family::DependentAbove => 700,
@@ -91,6 +92,8 @@ fn sheets(family: Family) -> u64 {
         Family::LimitNamed | Family::LimitStop => 100,
         Family::Columns513 | Family::ColumnsAround => 75,
         Family::Columns512 | Family::ColumnsDense => 25,
+        Family::NineRails => 50,
+        Family::ManyOutputs => 250,
     }
 }
 

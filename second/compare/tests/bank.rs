@@ -1,21 +1,29 @@
 //! The proved bank, through its exported functions, against the second bank and its book: every answer, every output and every byte
-//! of bank, scan state and row memory after each call.
+//! of bank, scan state and row memory after each call. Rows at their limits are in the folder beside.
 
-use proved::{State, StepNumbers};
+#[path = "bank/rows.rs"]
+mod rows;
+
+use proved::{State, StepNumbers, ROW_BYTES};
 use second::bank::{self, NOT_SET};
 use second::book::{Book, Call, Outputs, Said};
-use second::generate::{block, calls, compiled, damage, job, Family, Random, StoredBlock};
+use second::generate::{block, calls, compiled, damage, job, made, Family, Random, StoredBlock};
 use second::panel::Panel;
 use second::stored;
 use std::collections::BTreeMap;
 
 const SEED: u64 = 9341;
 
-/// Hand-made blocks, and one that the compiler wrote.
+/// Hand-made blocks, some with cells of up to sixteen outputs and up to 12 rails, and one that the compiler wrote.
 fn blocks(index: u64) -> Vec<StoredBlock> {
-    let family = [Family::SmallOrders, Family::SmallManyFree, Family::Medium][index as usize % 3];
+    let family = match index % 24 {
+        23 => Family::ManyOutputs,
+        place => [Family::SmallOrders, Family::SmallManyFree, Family::Medium][place as usize % 3],
+    };
     let hand_made = (0..3).map(|k| block(SEED, index * 3 + k));
+    let of_many = (index % 8 == 0).then(|| made(SEED, index / 8));
     hand_made
+        .chain(of_many)
         .chain(compiled(&job(family, SEED, index)))
         .collect()
 }
@@ -210,7 +218,9 @@ fn any_bytes() {
         let mut state = State {
             bank: std::array::from_fn(|_| random.next() as u8),
             scan: std::array::from_fn(|_| random.next() as u8),
-            rows: (0..random.below(64)).map(|_| random.next() as u8).collect(),
+            rows: (0..random.below(128))
+                .map(|_| random.next() as u8)
+                .collect(),
         };
         if index % 2 == 0 {
             state.bank[1] = 0;
@@ -262,10 +272,14 @@ fn whole_scans() {
     for index in 0..500 {
         let blocks = blocks(index);
         let (bank, scan) = bank::new_bank(255).expect("S in range");
-        let mut state = State::of(&bank, &scan, vec![0; 32_768]);
-        for (records, rows) in &blocks {
-            assert_eq!(state.admit(records, rows), 0);
-        }
+        let mut state = State::of(&bank, &scan, vec![0; ROW_BYTES]);
+        // The largest leave no room for others.
+        let mut blocks = blocks;
+        blocks.retain(|(records, rows)| match state.admit(records, rows) {
+            0 => true,
+            number => number != 11,
+        });
+        assert_eq!(usize::from(state.bank[2]), blocks.len());
         let words: [u16; 8] = std::array::from_fn(|b| (index * 977 + b as u64 * 331) as u16);
         assert_eq!(state.latch(&words), 0);
         while state.step().kind == 1 {}

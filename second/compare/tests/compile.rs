@@ -1,7 +1,7 @@
 //! The whole compiler against `fast` and `plain`: every field of the answer, every width and every element of the three
 //! memories after, lent long, exact and short, over old contents that vary.
 
-use proved::{compile, odd_jobs, Totals, WIDTHS};
+use proved::{compile, odd_jobs, Totals, ROW_BYTES, WIDTHS};
 use second::fast::Compiler;
 use second::generate::{job, Family};
 use second::job::{Answer, Job, Lent, Node};
@@ -131,25 +131,26 @@ fn compare(
         let mut enough = Lent {
             nodes: vec![Node::default(); 10_240],
             records: vec![0; 80],
-            rows: vec![0; 32_768],
+            rows: vec![0; ROW_BYTES],
         };
         let needed = match second(&job, &mut enough) {
-            Answer::Accepted(made) => [made.nodes * 3, job.order.len() * 4, made.rows],
+            Answer::Accepted(made) => [made.nodes * 3, job.order.len() * 4, made.rows * 2],
             Answer::Refused(_) => [numbers.below(400), numbers.below(100), numbers.below(400)],
         };
         let more = |numbers: &mut Numbers| needed.map(|length| length + numbers.below(9));
         let mut kinds = vec![needed, more(&mut numbers)];
         if index % 50 == 0 {
-            kinds.push([30_720, 80, 32_768]);
+            kinds.push([30_720, 80, ROW_BYTES]);
         }
         // One, two or three memories too short.
         let short = index % 7 + 1;
         let mut lengths = more(&mut numbers);
         for (place, length) in lengths.iter_mut().enumerate() {
             if short >> place & 1 == 1 {
-                *length = match numbers.below(3) {
+                *length = match numbers.below(4) {
                     0 => needed[place].saturating_sub(1),
                     1 => numbers.below(needed[place] + 1),
+                    2 => needed[place] / 2,
                     _ => 0,
                 };
             }
@@ -306,6 +307,45 @@ fn stop_records() {
         with_plain(Family::StopDamaged, 150),
     ] {
         assert!(all.keys().eq([&4, &6]), "{all:?}");
+    }
+}
+
+/// Document 02, §6: 9 rails at a cut, cells of up to 15 outputs, and the same sheets under every L from 0 to 17.
+#[test]
+fn many_outputs() {
+    let all = with_fast(Family::NineRails, 300);
+    assert!(lent_cases(&all, 20) && seen(&all, 8) >= 20, "{all:?}");
+    with_plain(Family::NineRails, 2);
+    let all = with_fast(Family::ManyOutputs, 2_000);
+    assert!(lent_cases(&all, 100), "{all:?}");
+    with_plain(Family::ManyOutputs, 20);
+
+    let every_limit = |family: Family, sheets: u64| {
+        let sheets = (0..sheets).map(move |index| job(family, SEED, index));
+        sheets.flat_map(|job| {
+            (0..=17).map(move |cell_outputs| Job {
+                cell_outputs,
+                ..job.clone()
+            })
+        })
+    };
+    let mut compiler = Compiler::new();
+    for (family, sheets) in [
+        (Family::SmallOrders, 200),
+        (Family::Medium, 200),
+        (Family::Loose, 100),
+        (Family::LimitFewFree, 20),
+        (Family::Columns512, 10),
+        (Family::NineRails, 20),
+        (Family::ManyOutputs, 100),
+    ] {
+        let name = format!("{} under every L", family.name());
+        let all = compare(&name, every_limit(family, sheets), |job, lent| {
+            compiler.compile(job, lent)
+        });
+        // L 0 and 17, each with three or four memories.
+        assert!(seen(&all, 1) >= 2 * 3 * sheets, "{all:?}");
+        assert!(lent_cases(&all, sheets / 10), "{all:?}");
     }
 }
 

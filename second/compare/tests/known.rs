@@ -3,10 +3,11 @@
 use proved::known;
 use second::cases;
 use second::generate::{
-    compiled, damage, job, known_but, made, Family, Random, StoredBlock as Cascade,
+    compiled, damage, job, known_but, made, over_limit, Family, Over, Random,
+    StoredBlock as Cascade,
 };
-use second::known::{plain, Runs};
-use second::stored::well_formed;
+use second::known::{plain, sets, Runs};
+use second::stored::{cells, well_formed};
 
 const SEED: u64 = 5077;
 
@@ -99,6 +100,43 @@ fn damaged() {
     println!("{index} damaged cascades: {refused} give 12");
 }
 
+/// Rows too large, or one byte too few or too many, in cells of any number of outputs up to sixteen; and
+/// cascades over one limit alone.
+#[test]
+fn rows_at_their_bounds() {
+    let mut random = Random::new(4, SEED, 0);
+    for index in 0..1_200 {
+        let (records, rows) = made(SEED, index);
+        let mut first = 0;
+        let mut tried = vec![rows[..rows.len() - 1].to_vec(), [&rows[..], &[0]].concat()];
+        for cell in cells(&records).expect("well formed") {
+            let bound = 1u32 << cell.output_count();
+            let place = 2 * (first + random.below(cell.rows));
+            first += cell.rows;
+            for value in [bound - 1, bound].map(u16::try_from).into_iter().flatten() {
+                let mut rows = rows.clone();
+                rows[place..place + 2].copy_from_slice(&value.to_le_bytes());
+                tried.push(rows);
+            }
+        }
+        for rows in tried {
+            let (mask, word) = (known_but(&mut random, 2), random.word());
+            let expected = sets(&records, &rows, mask, word);
+            let cascade = (records.clone(), rows);
+            let values = proved_values(&mut random, &cascade, mask, word);
+            assert_eq!(values, expected, "{index}");
+            assert_eq!(values.is_ok(), well_formed(&cascade.0, &cascade.1));
+        }
+    }
+    for over in Over::ALL {
+        for index in 0..40 {
+            let cascade = over_limit(over, SEED, index);
+            let values = proved_values(&mut random, &cascade, 0, 0);
+            assert_eq!(values, Err(12), "{over:?}");
+        }
+    }
+}
+
 /// Every byte of case A's records and rows changed in every way, and slices of any length.
 #[test]
 fn odd_bytes_and_lengths() {
@@ -115,7 +153,7 @@ fn odd_bytes_and_lengths() {
         changed[place] = value;
         odd.push((records.clone(), changed));
     }
-    for length in (0..100).chain([255, 256, 4_096, 32_768, 32_769, 70_000]) {
+    for length in (0..100).chain([255, 256, 4_096, 32_768, 65_535, 65_536, 65_537, 70_000]) {
         odd.push((records.clone(), vec![0; length]));
         odd.push((vec![0; length], rows.clone()));
         let any = (0..length).map(|_| random.byte()).collect();

@@ -50,7 +50,7 @@ fn jobs() {
             Family::SmallFewFree | Family::SmallManyFree | Family::SmallOrders => 300,
             Family::Medium | Family::FullRows | Family::Loose => 150,
             Family::StopSome | Family::StopClash | Family::StopDamaged => 150,
-            Family::LimitStop => 10,
+            Family::LimitStop | Family::NineRails | Family::ManyOutputs => 10,
             _ => 40,
         };
         compare(

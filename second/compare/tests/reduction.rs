@@ -1,7 +1,7 @@
 //! The reduction against `fast` and `plain`: refusal, number of nodes, and every word of both arrays after, over old
 //! contents that vary.
 
-use proved::{odd_jobs, reduce, Reduction, NODE_WORDS, WIDTHS};
+use proved::{odd_jobs, reduce, Reduction, NODE_WORDS, ROW_BYTES, WIDTHS};
 use second::fast::{self, Compiler};
 use second::generate::{job, Family};
 use second::job::{Answer, Job, Lent, Node};
@@ -53,13 +53,13 @@ fn by_fast(compiler: &mut Compiler, job: &Job) -> Made {
 /// the whole job, and where K and L are in range the reduction does not depend on them.
 fn by_plain(job: &Job) -> Made {
     let mut job = job.clone();
-    if (2..=12).contains(&job.cell_inputs) && (1..=8).contains(&job.cell_outputs) {
-        (job.cell_inputs, job.cell_outputs) = (12, 8);
+    if (2..=12).contains(&job.cell_inputs) && (1..=16).contains(&job.cell_outputs) {
+        (job.cell_inputs, job.cell_outputs) = (12, 16);
     }
     let mut lent = Lent {
         nodes: vec![Node::default(); NODE_WORDS / 3],
         records: vec![0; 80],
-        rows: vec![0; 32_768],
+        rows: vec![0; ROW_BYTES],
     };
     match plain::compile(&job, &mut lent) {
         Answer::Refused(number) => Err(number),

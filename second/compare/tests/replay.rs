@@ -29,7 +29,7 @@ fn compare(text: &[u8], seen: &mut BTreeMap<String, u64>) {
 fn blocks(index: u64) -> Vec<StoredBlock> {
     let hand_made = (0..6).map(|k| block(SEED, index * 6 + k));
     hand_made
-        .filter(|(_, rows)| rows.len() <= 300)
+        .filter(|(_, rows)| rows.len() <= 400)
         .chain(compiled(&job(Family::SmallOrders, SEED, index)))
         .collect()
 }
@@ -76,7 +76,7 @@ fn texts(lists: u64, mut each: impl FnMut(&str)) -> u64 {
             text.clear();
         }
         if text.is_empty() {
-            text = format!("memory {}\n", memory.min(32_768));
+            text = format!("memory {}\n", memory.min(65_536));
         }
         text.push_str(&more);
         held += 1;
@@ -159,7 +159,10 @@ fn single_lines() {
         compare(format!("memory 9\n{line}").as_bytes(), &mut seen);
         compare(line.as_bytes(), &mut seen);
     }
-    for memory in ["0", "1", "32768", "32769", "00009", "000009", "", "x", "9 "] {
+    for memory in [
+        "0", "1", "32768", "32769", "65535", "65536", "65537", "99999", "00009", "000009", "", "x",
+        "9 ",
+    ] {
         compare(format!("memory {memory}\nbank 1\n").as_bytes(), &mut seen);
     }
     for byte in 0..=255u8 {
@@ -193,7 +196,7 @@ fn broken_off_and_long() {
         text
     };
     for length in [
-        16_382, 16_383, 16_384, 16_385, 20_000, 65_535, 65_536, 70_000,
+        32_766, 32_767, 32_768, 32_769, 40_000, 65_535, 65_536, 70_000,
     ] {
         compare(&steps(length), &mut seen);
     }

@@ -3,7 +3,7 @@
 //! function with a node for each prefix, where different nodes have the same column.
 
 use proved::{
-    compatible_columns, descent, reduce, same_columns, walk, Reached, NODE_WORDS, WIDTHS,
+    compatible_columns, descent, reduce, same_columns, walk, Reached, NODE_WORDS, ROW_BYTES, WIDTHS,
 };
 use second::fast::Compiler;
 use second::generate::{job, Family, Random};
@@ -241,7 +241,7 @@ impl<'a> Diagram<'a> {
         let Answer::Accepted(totals) = compiler.compile(job, lent) else {
             return;
         };
-        let mut rows = lent.rows[..totals.rows].iter();
+        let mut rows = lent.rows[..2 * totals.rows].chunks_exact(2);
         let (mut upper, mut upper_rails) = (self.top(), 0);
         for (place, record) in lent.records.chunks_exact(4).take(self.top()).enumerate() {
             if record[1] == 0 {
@@ -250,7 +250,7 @@ impl<'a> Diagram<'a> {
             let lower = self.top() - place - 1;
             let count = self.function.inputs_between(upper, lower);
             for address in 0..1 << (upper_rails + count) {
-                let row = *rows.next().expect("a row for each address");
+                let row = rows.next().expect("a row for each address");
                 let (number, value) = (address >> count, address % (1 << count));
                 if number >= self.columns[upper].width() {
                     continue;
@@ -267,11 +267,8 @@ impl<'a> Diagram<'a> {
                 );
                 let lower_word = u32::from(to.node - self.node(lower, 0));
                 let by_walk = to.outputs << record[2] | lower_word;
-                assert_eq!(
-                    by_walk,
-                    u32::from(row),
-                    "node {node}, cuts {cuts:?}: {job:?}"
-                );
+                let value = u32::from(row[0]) + 256 * u32::from(row[1]);
+                assert_eq!(by_walk, value, "node {node}, cuts {cuts:?}: {job:?}");
                 seen.rows += 1;
             }
             (upper, upper_rails) = (lower, usize::from(record[2]));
@@ -295,7 +292,7 @@ fn compare(family: Family, jobs: u64) -> [Seen; 3] {
     let mut lent = Lent {
         nodes: vec![Node::default(); MOST_NODES],
         records: vec![0; 80],
-        rows: vec![0; 32_768],
+        rows: vec![0; ROW_BYTES],
     };
     let random = &mut Random::new(77, SEED, family as u64);
     let mut words = [0; NODE_WORDS];
@@ -353,7 +350,9 @@ fn larger() {
         Family::LimitFewFree,
         Family::LimitManyFree,
         Family::Columns512,
+        Family::NineRails,
     ] {
         assert!(compare(family, 15)[0].diagrams >= 10);
     }
+    assert!(compare(Family::ManyOutputs, 40)[0].cascades >= 30);
 }

@@ -151,19 +151,19 @@ fn list_equations(limit: u8, row_memory: usize, calls: &[Call]) -> [String; 2] {
 fn blocks(seed: u64, index: u64) -> Vec<StoredBlock> {
     let mut found: Vec<StoredBlock> = (0..200)
         .map(|k| block(seed, index * 200 + k))
-        .filter(|b| b.1.len() <= 24 && b.0.len() <= 40)
+        .filter(|b| b.1.len() <= 48 && b.0.len() <= 40)
         .take(2)
         .collect();
     let job = job(Family::SmallOrders, seed, index);
     let mut lent = Lent {
         nodes: vec![Node::default(); 10_240],
         records: vec![0; 80],
-        rows: vec![0; 32_768],
+        rows: vec![0; 65_536],
     };
     if let Answer::Accepted(totals) = plain::compile(&job, &mut lent) {
         if totals.rows <= 32 {
             lent.records.truncate(4 * job.order.len());
-            lent.rows.truncate(totals.rows);
+            lent.rows.truncate(2 * totals.rows);
             found.push((lent.records, lent.rows));
         }
     }
@@ -173,7 +173,7 @@ fn blocks(seed: u64, index: u64) -> Vec<StoredBlock> {
 /// A bank and scan state with one or two fields changed, and whether the second bank gives 12 of it.
 fn state_equation(seed: u64, index: u64) -> String {
     let (mut bank, mut scan) = new_bank(1 + index % 9).expect("S in range");
-    let mut rows = vec![0; 400];
+    let mut rows = vec![0; 800];
     for (records, bytes) in blocks(seed, index) {
         let _ = admit(&mut bank, &mut scan, &mut rows, &records, &bytes);
     }
@@ -265,13 +265,13 @@ fn job_equations(seed: u64, wanted: usize) -> (Vec<String>, BTreeMap<String, usi
         let mut ample = Lent {
             nodes: vec![Node::default(); 10_240],
             records: vec![0; 80],
-            rows: vec![0; 32_768],
+            rows: vec![0; 65_536],
         };
         let needed = match plain::compile(&job, &mut ample) {
-            Answer::Accepted(t) => (t.nodes, 4 * job.order.len(), t.rows),
+            Answer::Accepted(t) => (t.nodes, 4 * job.order.len(), 2 * t.rows),
             Answer::Refused(_) => (2, 2, 2),
         };
-        if needed.0 > 40 || needed.2 > 40 {
+        if needed.0 > 40 || needed.2 > 80 {
             continue;
         }
         let (equation, kind) = compile_equation(&job, &lent(&job, seed, index, needed));
@@ -293,7 +293,7 @@ fn run(folder: &Path, seed: u64, jobs: usize, lists: usize, states: usize) -> io
     for index in 0..lists as u64 {
         let (limit, row_memory, mut list) = calls(seed, index, &blocks(seed, index));
         list.truncate(14);
-        called.extend(list_equations(limit, row_memory.min(150), &list));
+        called.extend(list_equations(limit, row_memory.min(300), &list));
     }
     let damaged: Vec<String> = (0..states as u64)
         .map(|i| state_equation(seed, i))

@@ -36,7 +36,7 @@ fn time(family: Family, jobs: u64) {
     let mut lent = Lent {
         nodes: vec![Node::default(); 10_240],
         records: vec![0; 80],
-        rows: vec![0; 32_768],
+        rows: vec![0; 65_536],
     };
     let mut compiler = Compiler::new();
     let mut times: [Times; 5] = Default::default();

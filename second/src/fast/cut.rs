@@ -3,15 +3,16 @@
 //! The limit of 32,768 rows never decides. Rails at a cut are at most the inputs above it, so a
 //! cell with inputs of the order has at most 2^s rows, s the inputs above its lower cut; s differs
 //! between such cells, so together they have at most 2 + 4 + ... + 4,096 = 8,190 rows. A cell
-//! without has 2^r rows, r the lower rails of the cell above and so at most 8; it has an output of
-//! the order, so there are at most 8 such cells and 2,048 such rows.
+//! without has 2^r rows, r the rails of at most 512 columns and so at most 9; it has an output of
+//! the order, so there are at most 8 such cells and 4,096 such rows.
 
 use super::reduce::Diagram;
 use super::sheet::Table;
 use super::{zeroed, MAX_HEIGHT};
 use crate::job::{Lent, Node, Totals};
 
-type Block = Box<[u8; 4096]>;
+/// Values of rows.
+type Block = Box<[u16; 4096]>;
 
 /// Scratch for the rows of one cell: the blocks of two neighbouring heights.
 pub struct Blocks {
@@ -106,7 +107,7 @@ pub fn cut(
     if lent.records.len() < 4 * top {
         return Err(10);
     }
-    if lent.rows.len() < rows {
+    if lent.rows.len() < 2 * rows {
         return Err(11);
     }
 
@@ -123,7 +124,7 @@ pub fn cut(
             lent.records[4 * (top - height - 1)..][..4].copy_from_slice(&record);
         }
         let len = 1 << cell_inputs(upper, lower);
-        let cell = &mut lent.rows[at..at + len];
+        let cell = &mut lent.rows[2 * at..2 * (at + len)];
         write_rows(diagram, order, (upper, lower), rails[lower], blocks, cell);
         at += len;
         upper = lower;
@@ -140,25 +141,26 @@ pub fn cut(
     })
 }
 
-/// Writes a cell's rows, from its lower cut up: each column of a height has the block of rows for
-/// the cell's inputs at or below that height. A height has at most as many columns as the upper cut
-/// has times the inputs between, so no height needs more than the cell's rows.
+/// Writes the bytes of a cell's rows. Their values are made from its lower cut up: each column of a
+/// height has the block of rows for the cell's inputs at or below that height. A height has at most
+/// as many columns as the upper cut has times the inputs between, so no height needs more than the
+/// cell's rows.
 fn write_rows(
     diagram: &Diagram,
     order: &[u8],
     (upper, lower): (usize, usize),
     lower_rails: usize,
     blocks: &mut Blocks,
-    rows: &mut [u8],
+    bytes: &mut [u8],
 ) {
     let Blocks { below, here } = blocks;
     for (column, row) in below[..usize::from(diagram.widths[lower])]
         .iter_mut()
         .enumerate()
     {
-        *row = column as u8;
+        *row = column as u16;
     }
-    let (mut len, mut bit) = (1, 1u8 << (lower_rails & 7));
+    let (mut len, mut bit) = (1, 1u16 << (lower_rails & 15));
     for height in lower + 1..=upper {
         let nodes = diagram.at(height);
         let first = diagram.first[height - 1];
@@ -188,8 +190,17 @@ fn write_rows(
         std::mem::swap(below, here);
     }
     let used = len * usize::from(diagram.widths[upper]);
-    rows[..used].copy_from_slice(&below[..used]);
-    rows[used..].fill(0);
+    let (used, unused) = bytes.split_at_mut(2 * used);
+    store(used, below);
+    unused.fill(0);
+}
+
+/// The values as row bytes, as many as there is room for.
+#[inline(always)]
+fn store(bytes: &mut [u8], values: &Block) {
+    for (row, value) in bytes.as_chunks_mut().0.iter_mut().zip(values.iter()) {
+        *row = value.to_le_bytes();
+    }
 }
 
 /// At an input: the block for 0, then that for 1.
@@ -211,13 +222,13 @@ fn join_long(nodes: &[Node], first: u16, len: usize, below: &Block, here: &mut B
 
 /// The column below an output and the output's bit in the rows: one child is that column, the
 /// other the same or constant 0; d is emitted as 0.
-fn value(node: &Node, first: u16, bit: u8) -> (usize, u8) {
+fn value(node: &Node, first: u16, bit: u16) -> (usize, u16) {
     let column = usize::from(node.low.max(node.high) - first);
     (column, if node.low == 0 { bit } else { 0 })
 }
 
 /// At an output: the block below, with the output's bit.
-fn set<const LEN: usize>(nodes: &[Node], first: u16, bit: u8, below: &Block, here: &mut Block) {
+fn set<const LEN: usize>(nodes: &[Node], first: u16, bit: u16, below: &Block, here: &mut Block) {
     let (below, here) = (below.as_chunks::<LEN>().0, here.as_chunks_mut::<LEN>().0);
     for (node, block) in nodes.iter().zip(here) {
         let (column, bit) = value(node, first, bit);
@@ -225,7 +236,7 @@ fn set<const LEN: usize>(nodes: &[Node], first: u16, bit: u8, below: &Block, her
     }
 }
 
-fn set_long(nodes: &[Node], first: u16, bit: u8, len: usize, below: &Block, here: &mut Block) {
+fn set_long(nodes: &[Node], first: u16, bit: u16, len: usize, below: &Block, here: &mut Block) {
     for (node, block) in nodes.iter().zip(here.chunks_exact_mut(len)) {
         let (column, bit) = value(node, first, bit);
         for (row, &from) in block.iter_mut().zip(&below[column * len..][..len]) {

@@ -93,7 +93,7 @@ pub fn read(job: &Job, table: &mut Table) -> Result<(), u8> {
     if !(1..=12).contains(&job.inputs)
         || !(1..=8).contains(&job.outputs)
         || !(2..=12).contains(&job.cell_inputs)
-        || !(1..=8).contains(&job.cell_outputs)
+        || !(1..=16).contains(&job.cell_outputs)
     {
         return Err(1);
     }

@@ -3,6 +3,12 @@
 use crate::bank::{Bank, Scan, Step};
 use crate::stored::{Cell, FIRST_OUTPUT, MAX_RECORDS, MAX_ROWS, RECORD_BYTES};
 
+/// The value of row `number` of the row memory, which has it.
+#[inline(always)]
+fn row_at(held_rows: &[u8], number: usize) -> u16 {
+    u16::from(held_rows[2 * number]) | u16::from(held_rows[2 * number + 1]) << 8
+}
+
 /// Cells and rows of a block, and what was found of one of its cells.
 #[derive(Clone, Copy, Default)]
 struct Block {
@@ -112,7 +118,7 @@ pub fn step(bank: &Bank, scan: &mut Scan, held_rows: &[u8]) -> Step {
     let Some((before, cells, cell)) = held.next else {
         return Step::Idle;
     };
-    if held_rows.len() < held.rows {
+    if held_rows.len() < 2 * held.rows {
         return Step::Refused(11);
     }
     let went = Step::Went {
@@ -128,18 +134,18 @@ pub fn step(bank: &Bank, scan: &mut Scan, held_rows: &[u8]) -> Step {
         .fold(usize::from(scan.rail), |address, input| {
             address << 1 | usize::from(word >> input & 1)
         });
-    let row = held_rows[before + cell.row + address];
+    let row = row_at(held_rows, before + cell.row + address);
     let mut bit = cell.lower;
     for variable in variables()
         .rev()
         .filter(|&variable| variable >= FIRST_OUTPUT)
     {
-        scan.outputs[place][usize::from(variable - FIRST_OUTPUT)] = row >> bit & 1;
+        scan.outputs[place][usize::from(variable - FIRST_OUTPUT)] = (row >> bit & 1) as u8;
         bit += 1;
     }
     if usize::from(scan.cell) + 1 < cells {
         scan.cell += 1;
-        scan.rail = u16::from(row) & ((1 << cell.lower) - 1);
+        scan.rail = row & ((1 << cell.lower) - 1);
     } else {
         scan.running = place + 1 < usize::from(bank.count);
         scan.block = if scan.running { scan.block + 1 } else { 0 };

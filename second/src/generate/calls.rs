@@ -25,7 +25,7 @@ fn latch(random: &mut Random) -> Call {
     Call::Latch(std::array::from_fn(|_| random.word() & (0x0FFF | high)))
 }
 
-/// A scan limit S, a row memory length and a list of calls over the given well-formed blocks. S and the
+/// A scan limit S, a row memory length in bytes and a list of calls over the given well-formed blocks. S and the
 /// length are drawn around what some of the planned admissions need.
 pub fn calls(seed: u64, index: u64, blocks: &[StoredBlock]) -> (u8, usize, Vec<Call>) {
     let mut random = Random::new(202, seed, index);
@@ -64,12 +64,13 @@ pub fn calls(seed: u64, index: u64, blocks: &[StoredBlock]) -> (u8, usize, Vec<C
         2 => random.within(1, 255),
         _ => 255,
     };
+    let any = random.within(0, rows);
     let row_memory = match random.below(6) {
         0 => rows,
         1 => rows.saturating_sub(1),
         2 => rows + random.within(1, 300),
-        3 => random.within(0, rows),
-        _ => random.pick(&[32_768, 32_767, 33_000, 70_000]),
+        3 => random.pick(&[any, rows / 2]),
+        _ => random.pick(&[65_536, 65_535, 65_537, 80_000]),
     };
     (limit.clamp(1, 255) as u8, row_memory, calls)
 }

@@ -97,7 +97,7 @@ fn spoil(random: &mut Random, job: &mut Job, fault: Fault) {
         Fault::InputCount => job.inputs = out_of_range(random, job.inputs, 1, 12),
         Fault::OutputCount => job.outputs = out_of_range(random, job.outputs, 1, 8),
         Fault::CellInputs => job.cell_inputs = out_of_range(random, job.cell_inputs, 2, 12),
-        Fault::CellOutputs => job.cell_outputs = out_of_range(random, job.cell_outputs, 1, 8),
+        Fault::CellOutputs => job.cell_outputs = out_of_range(random, job.cell_outputs, 1, 16),
         Fault::OrderShort => {
             let end = if random.coin() {
                 t - 1

@@ -30,7 +30,7 @@ pub fn pending(random: &mut Random, tight: bool) -> Job {
                 continue;
             }
             if kind == 0 {
-                limits.1 = random.within(limits.1, 8);
+                limits.1 = random.within(limits.1, 16);
             } else if kind == 1 {
                 limits.0 = random.within(limits.0, 12);
             }

@@ -23,8 +23,8 @@ impl Free {
 pub fn cell_limits(random: &mut Random) -> (u64, u64) {
     let (k, l) = match random.below(3) {
         0 => (random.within(2, 4), random.within(1, 3)),
-        1 => (random.within(2, 12), random.within(1, 8)),
-        _ => (random.within(8, 12), random.within(5, 8)),
+        1 => (random.within(2, 12), random.within(1, 16)),
+        _ => (random.within(8, 12), random.within(5, 16)),
     };
     (k as u64, l as u64)
 }

@@ -49,6 +49,16 @@ impl Random {
         (self.next() >> 48) as u16
     }
 
+    /// A row's value of some of the lowest bits, all those of `most`; one in 64 is `most` itself.
+    pub fn value(&mut self, most: u16) -> u16 {
+        let number = self.next();
+        if number % 64 == 0 {
+            most
+        } else {
+            (number >> 48) as u16 & most
+        }
+    }
+
     pub fn pick<T: Copy>(&mut self, from: &[T]) -> T {
         from[self.below(from.len())]
     }

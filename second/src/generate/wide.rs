@@ -51,11 +51,11 @@ fn points(random: &mut Random, inputs: &[u8], count: usize) -> Vec<u16> {
 /// The inputs by their part. Nine data inputs each own a slot, so that all 512 of their values differ.
 /// For `blind` values of the first eight the ninth is in no record (one column less each);
 /// for `marked` values a tenth input is tested in one more slot (one column more each).
-struct Parts {
-    data: Vec<u8>,
-    tenth: Option<u8>,
-    selectors: Vec<u8>,
-    spare: Vec<u8>,
+pub struct Parts {
+    pub data: Vec<u8>,
+    pub tenth: Option<u8>,
+    pub selectors: Vec<u8>,
+    pub spare: Vec<u8>,
 }
 
 /// A job with `columns` different columns, 490 to 530, at the height below the data inputs, and nowhere more.
@@ -88,7 +88,7 @@ pub fn wide(random: &mut Random, columns: usize) -> Job {
     random.shuffle(&mut records);
     let order = order(random, &parts, anywhere, m, &records);
     let (cell_inputs, cell_outputs) = if random.percent(75) {
-        (12, 8)
+        (random.within(10, 12) as u64, random.pick(&[8, 9, 16]))
     } else {
         cell_limits(random)
     };
@@ -104,7 +104,7 @@ pub fn wide(random: &mut Random, columns: usize) -> Job {
 
 /// Nine slots for the data inputs and one for the marks. The data slots do not all share a value of the
 /// first selector, else the all-free half of the next height would add a column.
-fn slots(random: &mut Random, m: usize, selectors: &[u8]) -> Vec<Slot> {
+pub fn slots(random: &mut Random, m: usize, selectors: &[u8]) -> Vec<Slot> {
     let mut slots: Vec<Slot> = Vec::new();
     for output in 0..m as u8 {
         for value in 0..1 << selectors.len() {
@@ -122,7 +122,7 @@ fn slots(random: &mut Random, m: usize, selectors: &[u8]) -> Vec<Slot> {
 }
 
 /// The records, and whether the tenth input may stand anywhere among the data inputs.
-fn sheet(
+pub fn sheet(
     random: &mut Random,
     parts: &Parts,
     slots: &[Slot],

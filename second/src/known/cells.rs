@@ -1,11 +1,19 @@
 //! The cells of a stored cascade in one pass without allocation, each tested before it is handed on. Made for speed.
 
-use crate::stored::{Cell, MAX_RECORDS, RECORD_BYTES};
+use crate::stored::{Cell, MAX_RECORDS, MAX_ROWS, RECORD_BYTES};
+
+/// A row: two bytes, low byte first.
+pub(super) type Pair = [u8; 2];
+
+#[inline(always)]
+pub(super) fn value(row: Pair) -> u16 {
+    u16::from_le_bytes(row)
+}
 
 /// A cell that is well formed, as are all above it.
 #[derive(Clone, Copy)]
 pub(super) struct Tested<'a> {
-    pub rows: &'a [u8],
+    pub rows: &'a [Pair],
     /// The bits of a row address that the known inputs give; 0 in all others.
     pub sure: usize,
     /// The bits of a row address that unknown inputs have, and how many.
@@ -34,12 +42,13 @@ impl Tested<'_> {
         lower_rails: 0,
     };
 
-    /// Writes the outputs' values, by a byte with the bits that are 1 in some row read and one with those that are 1 in all.
+    /// Writes the outputs' values, by the bits that are 1 in some row read and those that are 1 in all.
     #[inline(always)]
-    pub fn decide(&self, values: &mut [u8; 8], some: u8, all: u8) {
+    pub fn decide(&self, values: &mut [u8; 8], some: u16, all: u16) {
         let mut outputs = self.outputs;
         for place in self.lower_rails..self.lower_rails + self.output_count {
-            values[(outputs & 7) as usize] = (some >> place & 1) * 2 - (all >> place & 1);
+            let value = (some >> place & 1) * 2 - (all >> place & 1);
+            values[(outputs & 7) as usize] = value as u8;
             outputs >>= 4;
         }
     }
@@ -48,7 +57,7 @@ impl Tested<'_> {
 /// What is left of a cascade to be taken apart. Without TEST its rows are not tested: they were before.
 pub(super) struct Cells<'a, const TEST: bool> {
     records: std::slice::Iter<'a, [u8; RECORD_BYTES]>,
-    rows: &'a [u8],
+    rows: &'a [Pair],
     upper_rails: usize,
     /// A bit for each variable above.
     seen: u32,
@@ -60,7 +69,9 @@ impl<'a, const TEST: bool> Cells<'a, TEST> {
     #[inline(always)]
     pub fn new(records: &'a [u8], rows: &'a [u8], known: u16, word: u16) -> Result<Self, u8> {
         let (records, part) = records.as_chunks();
-        if !part.is_empty() || !(1..=MAX_RECORDS).contains(&records.len()) {
+        let (rows, half) = rows.as_chunks();
+        let whole = part.is_empty() && half.is_empty() && rows.len() <= MAX_ROWS;
+        if !whole || !(1..=MAX_RECORDS).contains(&records.len()) {
             return Err(12);
         }
         Ok(Cells {
@@ -73,8 +84,7 @@ impl<'a, const TEST: bool> Cells<'a, TEST> {
         })
     }
 
-    /// The next cell, top first; None after the last of a well-formed cascade, 12 by then at the latest where it is not. The row limit
-    /// needs no test: records that pass the others ask for 11,521 rows at most.
+    /// The next cell, top first; None after the last of a well-formed cascade, 12 by then at the latest where it is not.
     #[inline(always)]
     pub fn next(&mut self) -> Result<Option<Tested<'a>>, u8> {
         let mut cell = Tested::OPEN;
@@ -123,8 +133,8 @@ impl<'a, const TEST: bool> Cells<'a, TEST> {
             return Err(12);
         }
         (cell.rows, self.rows) = self.rows.split_at_checked(1 << inputs).ok_or(12)?;
-        // A row of eight outputs may be any byte.
-        if TEST && outputs < 8 && over(cell.rows, outputs) {
+        // A row of sixteen outputs may be any.
+        if TEST && outputs < 16 && over(cell.rows, outputs) {
             return Err(12);
         }
         self.upper_rails = cell.lower_rails;
@@ -132,13 +142,8 @@ impl<'a, const TEST: bool> Cells<'a, TEST> {
     }
 }
 
-/// Whether a row is not below 2^outputs.
+/// Whether a row is not below 2^outputs, which are fewer than 16.
 #[inline(always)]
-fn over(rows: &[u8], outputs: usize) -> bool {
-    let (eights, few) = rows.as_chunks();
-    let any = eights
-        .iter()
-        .fold(0, |any, eight| any | u64::from_le_bytes(*eight));
-    let any = few.iter().fold(any, |any, row| any | u64::from(*row));
-    any & 0x0101_0101_0101_0101 * (0xFF << outputs & 0xFF) != 0
+fn over(rows: &[Pair], outputs: usize) -> bool {
+    rows.iter().fold(0, |any, &row| any | value(row)) >> outputs != 0
 }

@@ -1,11 +1,11 @@
 //! Every filling by a run made for speed: the cells are taken apart once, and what the runs read of a cell is gathered.
 
-use super::cells::{Cells, Tested};
+use super::cells::{value, Cells, Tested};
 use super::{submasks, Values, UNKNOWN};
 use crate::stored::MAX_RECORDS;
 
 /// The bits that are 1 in some of a cell's rows read so far, and those that are 1 in all.
-type Gathered = (u8, u8);
+type Gathered = (u16, u16);
 
 /// As `plain`.
 pub fn fillings(records: &[u8], rows: &[u8], known: u16, word: u16) -> Values {
@@ -20,7 +20,7 @@ pub fn fillings(records: &[u8], rows: &[u8], known: u16, word: u16) -> Values {
         count += 1;
     }
     let cells = &found[..count];
-    let mut gathered = [(0, 255); MAX_RECORDS];
+    let mut gathered = [(0, !0); MAX_RECORDS];
     for filling in submasks(unknown) {
         run(cells, word & !unknown | filling, &mut gathered);
     }
@@ -40,7 +40,7 @@ fn run(cells: &[Tested], word: u16, gathered: &mut [Gathered]) {
             address |= usize::from(word >> (inputs & 15) & 1) << place;
             inputs >>= 4;
         }
-        let row = cell.rows[address];
+        let row = value(cell.rows[address]);
         *some |= row;
         *all &= row;
         rail = usize::from(row) & ((1 << cell.lower_rails) - 1);

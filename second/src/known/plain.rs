@@ -1,12 +1,12 @@
 //! The literal evaluation: a run of the cascade for every filling.
 
 use super::{submasks, Values, UNKNOWN};
-use crate::stored::{cells_with_rows, emitted, Cell};
+use crate::stored::{cells_with_rows, emitted, Cell, Row};
 
 type Emitted = [Option<bool>; 8];
 
 /// The inputs that the cells use, as a mask.
-fn used(cells: &[(Cell, &[u8])]) -> u16 {
+fn used(cells: &[(Cell, &[Row])]) -> u16 {
     let inputs = cells.iter().flat_map(|(cell, _)| &cell.inputs);
     inputs.fold(0, |mask, input| mask | 1 << input)
 }

@@ -1,19 +1,16 @@
 //! The set of rail words that may occur, carried from cell to cell as bits. Made for speed.
 
-use super::cells::{Cells, Tested};
+use super::cells::{value, Cells, Pair, Tested};
 use super::{Values, UNKNOWN};
-use crate::stored::Cell;
+use crate::stored::RECORD_BYTES;
 
-/// The most rail words at a cut.
-const RAIL_WORDS: usize = 1 << Cell::MAX_OUTPUTS;
+/// Rail words: bit b of word w is rail word 64 w + b. Rails are inputs of the cell below, so 64 words are room for any cut; four
+/// words, for up to 8 rails, take less time to clear and to hand on.
+type Set<const W: usize> = [u64; W];
 
-/// Rail words: bit b of word w is rail word 64 w + b.
-type Set = [u64; RAIL_WORDS / 64];
-
-const EMPTY: Set = [0; RAIL_WORDS / 64];
-
-/// From so many reads on, rail words are marked by bytes: a store does not wait for the one before it, as a bit does.
-const MANY: usize = 256;
+/// From so many reads for each word of the set on, rail words are marked by bytes: a store does not wait for the one before it, as
+/// a bit does.
+const MANY: usize = 64;
 
 /// Mistakes that can be switched on, for tests only.
 #[derive(Clone, Copy, Debug, PartialEq, Eq)]
@@ -45,8 +42,25 @@ pub fn sets_with(records: &[u8], rows: &[u8], known: u16, word: u16, mistake: Mi
     evaluate::<true>(records, rows, known, word, mistake)
 }
 
+/// In as few words as the cut with most rails allows.
 #[inline(always)]
 fn evaluate<const TEST: bool>(
+    records: &[u8],
+    rows: &[u8],
+    known: u16,
+    word: u16,
+    mistake: Mistake,
+) -> Values {
+    let each = records.as_chunks::<RECORD_BYTES>().0.iter();
+    match each.fold(0, |most, record| most.max(record[2])) {
+        0..=8 => in_words::<TEST, 4>(records, rows, known, word, mistake),
+        9..=12 => in_words::<TEST, 64>(records, rows, known, word, mistake),
+        _ => Err(12),
+    }
+}
+
+#[inline(always)]
+fn in_words<const TEST: bool, const W: usize>(
     records: &[u8],
     rows: &[u8],
     known: u16,
@@ -57,7 +71,7 @@ fn evaluate<const TEST: bool>(
         Mistake::LackingAsZero => [0; 8],
         _ => [UNKNOWN; 8],
     };
-    let mut set = EMPTY;
+    let mut set: Set<W> = [0; W];
     set[0] = 1;
     // At least as many as the set has.
     let mut rail_words = 1;
@@ -70,7 +84,7 @@ fn evaluate<const TEST: bool>(
         let (some, all, below) = read(&cell, &set, reads);
         cell.decide(&mut values, some, all);
         set = match mistake {
-            Mistake::SetKept => std::array::from_fn(|w| below[w] | set[w] & full(&cell)[w]),
+            Mistake::SetKept => std::array::from_fn(|w| below[w] | set[w] & full::<W>(&cell)[w]),
             _ => below,
         };
         rail_words = reads.min(1 << cell.lower_rails);
@@ -81,32 +95,35 @@ fn evaluate<const TEST: bool>(
 /// The bits that are 1 in some row that may be read, those that are 1 in all, and the rail words below the cell. There are at most
 /// `reads` such rows.
 #[inline(always)]
-fn read(cell: &Tested, set: &Set, reads: usize) -> (u8, u8, Set) {
-    let (mut some, mut all, mut below) = (0, 255, EMPTY);
+fn read<const W: usize>(cell: &Tested, set: &Set<W>, reads: usize) -> (u16, u16, Set<W>) {
+    let (mut some, mut all, mut below) = (0, !0, [0; W]);
     let run = 1 << cell.free.trailing_ones();
-    let rails = ((1 << cell.lower_rails) - 1) as u8;
+    let rails = (1 << cell.lower_rails) - 1;
     if cell.lower_rails == 0 {
         below[0] = 1;
         each_run(cell, set, run, |rows| {
-            for row in rows {
-                some |= row;
-                all &= row;
+            for &row in rows {
+                some |= value(row);
+                all &= value(row);
             }
         });
-    } else if reads < MANY {
+    } else if reads < MANY * W {
         each_run(cell, set, 1, |rows| {
-            some |= rows[0];
-            all &= rows[0];
-            let rail = usize::from(rows[0] & rails);
-            below[rail / 64] |= 1 << (rail % 64);
+            let row = value(rows[0]);
+            some |= row;
+            all &= row;
+            let rail = usize::from(row & rails);
+            below[rail / 64 % W] |= 1 << (rail % 64);
         });
     } else {
-        let mut marks = [0; RAIL_WORDS];
+        let mut marks = [[0; 64]; W];
         each_run(cell, set, run, |rows| {
-            for row in rows {
+            for &row in rows {
+                let row = value(row);
                 some |= row;
                 all &= row;
-                marks[usize::from(row & rails)] = 1;
+                let rail = usize::from(row & rails);
+                marks[rail / 64 % W][rail % 64] = 1;
             }
         });
         below = packed(&marks);
@@ -117,7 +134,12 @@ fn read(cell: &Tested, set: &Set, reads: usize) -> (u8, u8, Set) {
 /// Hands on the rows that may be read, each once, so many at a time. These stand one after the other: 1, or a power of two by which
 /// the unknown inputs lowest in the address count.
 #[inline(always)]
-fn each_run(cell: &Tested, set: &Set, run: usize, mut take: impl FnMut(&[u8])) {
+fn each_run<const W: usize>(
+    cell: &Tested,
+    set: &Set<W>,
+    run: usize,
+    mut take: impl FnMut(&[Pair]),
+) {
     let free = cell.free & !(run - 1);
     for (place, bits) in set.iter().enumerate() {
         let mut bits = *bits;
@@ -138,18 +160,20 @@ fn each_run(cell: &Tested, set: &Set, run: usize, mut take: impl FnMut(&[u8])) {
 }
 
 /// The set of the rail words marked with 1; the others have 0.
-fn packed(marks: &[u8; RAIL_WORDS]) -> Set {
-    let mut set = EMPTY;
-    for (place, eight) in marks.as_chunks().0.iter().enumerate() {
-        // The product's highest byte has the eight marks in order, and no two of its terms meet.
-        let bits = u64::from_le_bytes(*eight).wrapping_mul(0x0102_0408_1020_4080) >> 56;
-        set[place / 8] |= bits << (place % 8 * 8);
-    }
-    set
+fn packed<const W: usize>(marks: &[[u8; 64]; W]) -> Set<W> {
+    let word = |marks: &[u8; 64]| {
+        let eights = marks.as_chunks().0.iter().enumerate();
+        eights.fold(0, |word, (place, eight)| {
+            // The product's highest byte has the eight marks in order, and no two of its terms meet.
+            let bits = u64::from_le_bytes(*eight).wrapping_mul(0x0102_0408_1020_4080) >> 56;
+            word | bits << (place * 8)
+        })
+    };
+    marks.each_ref().map(word)
 }
 
 /// All rail words that the cell's lower rails can carry.
-fn full(cell: &Tested) -> Set {
+fn full<const W: usize>(cell: &Tested) -> Set<W> {
     std::array::from_fn(|place| {
         let words = (1usize << cell.lower_rails).saturating_sub(64 * place);
         (1u64.checked_shl(words as u32)).map_or(!0, |end| end - 1)
@@ -157,8 +181,8 @@ fn full(cell: &Tested) -> Set {
 }
 
 /// The lowest rail word alone.
-fn lowest(set: &Set) -> Set {
-    let mut found = EMPTY;
+fn lowest<const W: usize>(set: &Set<W>) -> Set<W> {
+    let mut found = [0; W];
     if let Some(place) = set.iter().position(|&bits| bits != 0) {
         found[place] = set[place] & set[place].wrapping_neg();
     }

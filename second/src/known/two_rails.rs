@@ -1,7 +1,7 @@
 //! Document 003's two rails a signal, from cell to cell. It is safe, but loses which rails go together.
 
 use super::{submasks, Values, UNKNOWN};
-use crate::stored::cells_with_rows;
+use crate::stored::{cells_with_rows, row_value};
 
 /// The value of a signal that may be 0, may be 1, or may be either.
 fn value(may_be_0: bool, may_be_1: bool) -> u8 {
@@ -23,7 +23,7 @@ pub fn two_rails(records: &[u8], rows: &[u8], known: u16, word: u16) -> Values {
         let ones = cell.address(rails[1], word | !known);
         let (mut any_0, mut any_1) = (0, 0);
         for filling in submasks((zeros & ones) as u16) {
-            let row = own[ones & !zeros | usize::from(filling)];
+            let row = row_value(own[ones & !zeros | usize::from(filling)]);
             any_0 |= !row;
             any_1 |= row;
         }

@@ -42,13 +42,20 @@ pub enum Mistake {
     LastMatching,
     /// 5 between a record and the next one in the sheet alone.
     NextRecordOnly,
+    /// A row's high byte first.
+    HighByteFirst,
+    /// A row's low byte alone, its other byte 0.
+    LowByteAlone,
+    /// 11 judged as if a row took one byte. Rows for which no room is left are dropped.
+    MemoryInRows,
 }
 
 /// All that an accepted job makes, before it is written into lent memory.
 struct Cascade {
     nodes: Vec<Node>,
     records: Vec<u8>,
-    rows: Vec<u8>,
+    /// The values of the rows.
+    rows: Vec<u16>,
     cells: usize,
     bits: usize,
     /// The widths at heights 0 to t - 1.
@@ -67,19 +74,27 @@ pub fn compile_with(job: &Job, lent: &mut Lent, mistake: Mistake) -> Answer {
         Ok(cascade) => cascade,
         Err(number) => return Answer::Refused(number),
     };
-    // 9: node table shorter than the nodes. 10: record buffer under 4 x t. 11: row memory short.
+    let row_bytes = written::row_bytes(&cascade.rows, mistake);
+    let row_room = match mistake {
+        Mistake::MemoryInRows => cascade.rows.len(),
+        _ => row_bytes.len(),
+    };
+    // 9: node table shorter than the nodes. 10: record buffer under 4 x t. 11: row memory short,
+    // "counted as two bytes a row".
     if lent.nodes.len() < cascade.nodes.len() {
         return Answer::Refused(9);
     }
     if lent.records.len() < cascade.records.len() {
         return Answer::Refused(10);
     }
-    if lent.rows.len() < cascade.rows.len() {
+    if lent.rows.len() < row_room {
         return Answer::Refused(11);
     }
     lent.nodes[..cascade.nodes.len()].copy_from_slice(&cascade.nodes);
     lent.records[..cascade.records.len()].copy_from_slice(&cascade.records);
-    lent.rows[..cascade.rows.len()].copy_from_slice(&cascade.rows);
+    for (byte, row_byte) in lent.rows.iter_mut().zip(row_bytes) {
+        *byte = row_byte;
+    }
     let mut widths = [0; 20];
     for (width, &w) in widths.iter_mut().zip(&cascade.widths) {
         *width = w as u16;

@@ -82,7 +82,7 @@ fn out_of_range(job: &Job) -> bool {
     !(1..=12).contains(&job.inputs)
         || !(1..=8).contains(&job.outputs)
         || !(2..=12).contains(&job.cell_inputs)
-        || !(1..=8).contains(&job.cell_outputs)
+        || !(1..=16).contains(&job.cell_outputs)
 }
 
 /// 2: the order is not each variable once.

@@ -2,6 +2,7 @@
 
 use super::cuts::{Cell, Cutting};
 use super::function::{Columns, Function, FREE};
+use super::Mistake;
 use crate::job::Node;
 
 /// "There is a node for each column at each height t to 1, heights falling, columns in number
@@ -46,8 +47,8 @@ pub fn nodes(function: &Function, columns: &[Columns]) -> Vec<Node> {
     nodes
 }
 
-/// The rows of all cells, top first.
-pub fn rows(cutting: &Cutting, columns: &[Columns], cuts: &[usize]) -> Vec<u8> {
+/// The values of the rows of all cells, top first.
+pub fn rows(cutting: &Cutting, columns: &[Columns], cuts: &[usize]) -> Vec<u16> {
     let mut rows = Vec::new();
     for cut in cuts.windows(2) {
         rows.extend(cell_rows(cutting, columns, cut[0], cut[1]));
@@ -55,8 +56,21 @@ pub fn rows(cutting: &Cutting, columns: &[Columns], cuts: &[usize]) -> Vec<u8> {
     rows
 }
 
-/// The rows of the cell between two cuts. "Rows of unused rail words are 0."
-fn cell_rows(cutting: &Cutting, columns: &[Columns], upper: usize, lower: usize) -> Vec<u8> {
+/// "A row is two bytes, low byte first."
+pub fn row_bytes(rows: &[u16], mistake: Mistake) -> Vec<u8> {
+    let bytes = |&row: &u16| {
+        let (low, high) = ((row % 256) as u8, (row / 256) as u8);
+        match mistake {
+            Mistake::HighByteFirst => [high, low],
+            Mistake::LowByteAlone => [low, 0],
+            _ => [low, high],
+        }
+    };
+    rows.iter().flat_map(bytes).collect()
+}
+
+/// The values of the rows of the cell between two cuts. "Rows of unused rail words are 0."
+fn cell_rows(cutting: &Cutting, columns: &[Columns], upper: usize, lower: usize) -> Vec<u16> {
     let function = cutting.function;
     let Cell { inputs, .. } = cutting.cell(upper, lower);
     let own_inputs = function.inputs_between(upper, lower);
@@ -66,14 +80,14 @@ fn cell_rows(cutting: &Cutting, columns: &[Columns], upper: usize, lower: usize)
             // "Row address: upper rail word, then the cell's inputs, topmost most significant."
             let address = rail_word << own_inputs | value;
             let at_lower = prefix << own_inputs | value;
-            // "Row byte: the cell's outputs, topmost most significant, then the lower rails."
+            // The cell's outputs, topmost most significant, "then the lower rails in the lowest bits".
             let mut row = 0;
             for height in (lower + 1..=upper).rev().filter(|&h| function.is_output(h)) {
                 let below = function.inputs_between(height, lower);
                 row = row << 1 | emitted(function.output(height, at_lower >> below));
             }
             let lower_word = columns[lower].of_prefix[at_lower];
-            rows[address] = (row << cutting.rails[lower] | lower_word) as u8;
+            rows[address] = (row << cutting.rails[lower] | lower_word) as u16;
         }
     }
     rows

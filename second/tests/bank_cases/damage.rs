@@ -54,9 +54,17 @@ fn bank_damages() -> Vec<Change> {
             (1, 2),
             (2, 1),
             (3, 1),
-            (10, 9),
+            (10, 12),
         ];
-        let wrong = [(10, 255), (21, 0), (21, 2), (22, 1), (22, 255), (23, 255)];
+        let wrong = [
+            (10, 17),
+            (10, 255),
+            (21, 0),
+            (21, 2),
+            (22, 1),
+            (22, 255),
+            (23, 255),
+        ];
         for (byte, value) in bytes.into_iter().chain(wrong) {
             list.push(change(move |bank, _| bank.records[place][byte] = value));
         }
@@ -80,7 +88,7 @@ fn scan_damages() -> Vec<Change> {
     for cell in [2, 3, 20, 255] {
         list.push(change(move |_, scan| scan.cell = cell));
     }
-    for rail in [4, 5, 256, 32_768, 65_535] {
+    for rail in [4, 5, 256, 4_096, 32_768, 65_535] {
         list.push(change(move |_, scan| scan.rail = rail));
     }
     // No rails stand above a block's first cell.
@@ -141,7 +149,9 @@ fn untested_parts_have_no_effect() {
     scan.outputs[5] = [77; 8];
     scan.outputs[1] = [255; 8];
     // Held rows aren't tested, and bits above a cell's outputs are passed over.
-    rows.iter_mut().for_each(|row| *row |= 0xfc);
+    for row in rows.chunks_exact_mut(2) {
+        (row[0], row[1]) = (row[0] | 0xfc, 0xff);
+    }
     assert_eq!(step(&plain_bank, &mut plain_scan, &rows), went(1, 1));
     let mut stepped = scan.clone();
     assert_eq!(step(&bank, &mut stepped, &rows), went(1, 1));
@@ -155,7 +165,7 @@ fn untested_parts_have_no_effect() {
     assert_eq!(latch(&bank, &mut scan.clone(), [3; 8]), Ok(()));
     // Only the new block's own record bytes are written.
     bank.limit = 5;
-    rows.push(0);
+    rows.extend([0; 2]);
     assert_eq!(
         admit(&mut bank, &mut scan, &mut rows, &ONE.0, &ONE.1),
         Ok(())
@@ -234,7 +244,7 @@ fn random_damage() {
                 _ => scan.words[place] = roll(65_536) as u16,
             }
         }
-        let length = [32, 33, 31, 0][roll(4) as usize].min(rows.len());
+        let length = [64, 32, 63, 0][roll(4) as usize].min(rows.len());
         if plainly_damaged(&bank, &scan) {
             assert_refused(&bank, &scan, &rows[..length]);
             bad += 1;
@@ -247,7 +257,7 @@ fn random_damage() {
         let need: usize = held
             .take(usize::from(bank.count))
             .flat_map(|(records, length)| cells(&records[..4 * usize::from(*length)]).unwrap())
-            .map(|cell| cell.rows)
+            .map(|cell| 2 * cell.rows)
             .sum();
         let expected = match before.running {
             false => Step::Idle,
@@ -257,7 +267,7 @@ fn random_damage() {
         assert_eq!(answer, expected);
         assert_eq!(scan == before, !matches!(answer, Step::Went { .. }));
         assert_eq!(latch(&bank, &mut scan, [5; 8]), Ok(()));
-        let mut room = vec![0; 40_000];
+        let mut room = vec![0; 80_000];
         let answer = admit(&mut bank, &mut scan, &mut room, &A_RECORDS, &A_ROWS);
         assert!(matches!(answer, Ok(()) | Err(14)));
     }

@@ -31,7 +31,7 @@ fn s_whole() {
         assert_eq!(totals.bits, 4);
         assert_eq!(widths(&totals, 3), [2, 2, 1]);
         assert_eq!(written.records, [0, 0, 0, 0, 1, 0, 0, 0, 0x80, 1, 0, 0]);
-        assert_eq!(written.rows, [1, 1, 0, 0]);
+        assert_eq!(written.rows, [1, 0, 1, 0, 0, 0, 0, 0]);
         let nodes = written.nodes.iter().map(|n| (n.height, n.low, n.high));
         assert!(nodes.eq(NODES_S), "{name}");
     }

@@ -8,7 +8,7 @@ pub fn enough() -> Lent {
     Lent {
         nodes: vec![Node::default(); 10_240],
         records: vec![0x5A; 80],
-        rows: vec![0xA5; 32_768],
+        rows: vec![0xA5; 65_536],
     }
 }
 

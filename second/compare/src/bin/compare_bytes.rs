@@ -8,7 +8,7 @@
 //! and all of the node table, the record buffer and the row memory after the call. Each is lent long enough for any job, with
 //! old contents that go by family, seed and index alone; so a byte that one archive keeps and the other writes shows too.
 
-use proved::{compile, NODE_WORDS, WIDTHS};
+use proved::{compile, NODE_WORDS, ROW_BYTES, WIDTHS};
 use second::generate::{job, Family, Random};
 use std::io::{self, Write};
 use std::process::ExitCode;
@@ -89,7 +89,7 @@ fn run(jobs: u64, seed: u64) -> io::Result<()> {
     let mut memories = Memories {
         nodes: vec![0; NODE_WORDS],
         records: vec![0; 80],
-        rows: vec![0; 32_768],
+        rows: vec![0; ROW_BYTES],
         widths: [0; WIDTHS],
     };
     let mut out = io::BufWriter::new(io::stdout().lock());

@@ -41,7 +41,7 @@ fn time(evaluation: Evaluation, batch: &[Asked]) -> f64 {
 
 fn measure(name: &str, cascades: &[Cascade], rounds: u32) {
     const EVALUATIONS: [Evaluation; 4] = [proved_values, sets, fused, fillings];
-    let rows = cascades.iter().map(|(_, rows)| rows.len()).max();
+    let rows = cascades.iter().map(rows).max();
     let cells = |(records, _): &Cascade| stored::cells(records).map_or(0, |cells| cells.len());
     let cells = cascades.iter().map(cells).max();
     for unknown in [0, 1, 3, 6, 12] {
@@ -79,8 +79,8 @@ fn largest(cascades: impl Iterator<Item = Cascade>, size: fn(&Cascade) -> usize)
     cascades
 }
 
-fn rows((_, rows): &Cascade) -> usize {
-    rows.len()
+fn rows((_, bytes): &Cascade) -> usize {
+    bytes.len() / 2
 }
 
 /// Rows of cells with upper rails.
@@ -121,12 +121,24 @@ fn main() -> ExitCode {
     println!("|---|---|---|---|---|---|---|---|---|---|");
     for (name, cascades) in [
         (
+            "eight rails by hand, random",
+            by_hand(Shape::EightRails, Rows::Random),
+        ),
+        (
+            "eight rails by hand, coupled",
+            by_hand(Shape::EightRails, Rows::Coupled),
+        ),
+        (
             "largest by hand, random",
             by_hand(Shape::Largest, Rows::Random),
         ),
         (
             "largest by hand, coupled",
             by_hand(Shape::Largest, Rows::Coupled),
+        ),
+        (
+            "sixteen outputs by hand",
+            by_hand(Shape::SixteenOutputs, Rows::Random),
         ),
         (
             "many cells by hand",

@@ -1,9 +1,10 @@
 //! Times two archives against each other in one process, call by call in turn, so that a machine whose speed wanders shows what
-//! changed. `compare_pair BEFORE.so AFTER.so [JOBS]`; a shared object is made of an archive by
+//! changed. Jobs on which the two answer different refusals are passed over. `compare_pair BEFORE.so AFTER.so [JOBS]`; a shared
+//! object is made of an archive by
 //!
 //!     cc -shared -Wl,-Bsymbolic -Wl,--whole-archive libpanel.a -Wl,--no-whole-archive -o AFTER.so
 
-use proved::{call, Reduction, Totals, NODE_WORDS, TABLE_BYTES, WIDTHS};
+use proved::{call, Reduction, Totals, NODE_WORDS, ROW_BYTES, TABLE_BYTES, WIDTHS};
 use second::fast::Compiler;
 use second::generate::{job, Family};
 use second::job::{Job, Lent, Node};
@@ -85,8 +86,12 @@ impl Memories {
     }
 
     fn compile(&mut self, archive: &Archive, job: &Job) {
+        std::hint::black_box(self.compiled(archive, job));
+    }
+
+    fn compiled(&mut self, archive: &Archive, job: &Job) -> Totals {
         // SAFETY: pointers and lengths are of slices and an array of their own.
-        std::hint::black_box(unsafe {
+        unsafe {
             call!(
                 archive.compile,
                 job,
@@ -98,7 +103,7 @@ impl Memories {
                 self.rows.len(),
                 &mut self.widths
             )
-        });
+        }
     }
 }
 
@@ -139,18 +144,23 @@ fn family(family: Family, jobs: u64, archives: &[Archive; 2]) {
         table: Box::new([0; TABLE_BYTES]),
         nodes: Box::new([0; NODE_WORDS]),
         records: [0; 80],
-        rows: vec![0; 32_768],
+        rows: vec![0; ROW_BYTES],
         widths: [0; WIDTHS],
     };
     let mut compiler = Compiler::new();
     let mut rival = Lent {
         nodes: vec![Node::default(); NODE_WORDS / 3],
         records: vec![0; 80],
-        rows: vec![0; 32_768],
+        rows: vec![0; ROW_BYTES],
     };
-    let mut sums = [0.0; 7];
+    let (mut sums, mut timed) = ([0.0; 7], 0);
     for index in 0..jobs {
         let job = job(family, 1, index);
+        let [one, other] = archives.each_ref().map(|a| lent.compiled(a, &job).refusal);
+        if one != other {
+            continue;
+        }
+        timed += 1;
         let mut fast = || {
             let _ = compiler.compile(&job, &mut rival);
         };
@@ -159,8 +169,8 @@ fn family(family: Family, jobs: u64, archives: &[Archive; 2]) {
             *sum += time;
         }
     }
-    let means = sums.map(|sum| sum / jobs as f64);
-    print!("| {} |", family.name());
+    let means = sums.map(|sum| sum / f64::from(timed.max(1)));
+    print!("| {} | {timed} |", family.name());
     for layer in means[..6].chunks_exact(2) {
         let change = (layer[1] / layer[0] - 1.0) * 100.0;
         print!(" {:.1} | {:.1} | {change:+.1} % |", layer[0], layer[1]);
@@ -185,8 +195,8 @@ fn main() -> ExitCode {
     };
     let archives = [before, after];
     println!("Microseconds a job, least of sixteen taken in turn; `fast` and the ratio to it for a compile.");
-    println!("| family | sheet before | after | | reduce before | after | | compile before | after | | fast | ratio |");
-    println!("|---|---|---|---|---|---|---|---|---|---|---|---|");
+    println!("| family | jobs | sheet before | after | | reduce before | after | | compile before | after | | fast | ratio |");
+    println!("|---|---|---|---|---|---|---|---|---|---|---|---|---|");
     for each in Family::ALL {
         family(each, jobs, &archives);
     }

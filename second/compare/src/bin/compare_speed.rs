@@ -1,6 +1,7 @@
 //! Times the proved layers against `fast`, in one run: the same jobs, both built for release. Argument: jobs for each family.
 
-use proved::{compile, reduce, sheet_refusal, sheet_table, State, NODE_WORDS, TABLE_BYTES, WIDTHS};
+use proved::{compile, reduce, sheet_refusal, sheet_table, State};
+use proved::{NODE_WORDS, ROW_BYTES, TABLE_BYTES, WIDTHS};
 use second::bank::{self, Bank, Scan};
 use second::fast::{self, read, Compiler};
 use second::generate::{block, compiled as compiled_block, job, Family, StoredBlock};
@@ -107,7 +108,7 @@ fn compiled(name: &str, jobs: &[Job]) {
     let mut compiler = Compiler::new();
     let mut widths = [0u16; WIDTHS];
     let mut words = vec![0u16; NODE_WORDS];
-    let (mut records, mut rows) = (vec![0u8; 80], vec![0u8; 32_768]);
+    let (mut records, mut rows) = (vec![0u8; 80], vec![0u8; ROW_BYTES]);
     let mut lent = Lent {
         nodes: vec![Node::default(); NODE_WORDS / 3],
         records: records.clone(),
@@ -151,7 +152,7 @@ fn each(mut run: impl FnMut() -> usize) -> f64 {
 /// The blocks in a bank of the second one, with the rows they take; the proved one's state is made of it.
 fn admitted(blocks: &[StoredBlock]) -> (Bank, Scan, Vec<u8>) {
     let (mut bank, mut scan) = bank::new_bank(255).expect("S in range");
-    let mut rows = vec![0; 32_768];
+    let mut rows = vec![0; ROW_BYTES];
     for (records, bytes) in blocks {
         bank::admit(&mut bank, &mut scan, &mut rows, records, bytes).expect("room");
     }
@@ -214,7 +215,7 @@ fn banks() -> Vec<(&'static str, Vec<StoredBlock>)> {
     let table1 = compiled_block(&second::cases::a()).expect("case A is accepted");
     let long: Vec<StoredBlock> = (0..)
         .map(|i| block(1, i))
-        .filter(|(records, rows)| records.len() == 80 && rows.len() < 4_000)
+        .filter(|(records, rows)| records.len() == 80 && rows.len() < 8_000)
         .take(8)
         .collect();
     vec![
