@@ -144,14 +144,14 @@ pub fn admit_block(
     }
     let at = rows_before(bank, count);
     let total = at + stored::row_count(records);
-    if (rows.len() < total) | (MOST_ROWS < total) {
+    if (rows.len() < total * 2) | (MOST_ROWS < total) {
         return Admitted {
             refusal: 11,
             bank,
             scan,
         };
     }
-    copy_at(bytes, at, rows);
+    copy_at(bytes, at * 2, rows);
     Admitted {
         refusal: 0,
         bank: with_block(bank, records),

@@ -5,6 +5,7 @@ ghost use Prim.Native.Nat.{_≤_, _+_, _*_, _%_, _^_};
 ghost use lib.Dec.{ltb};
 ghost use lib.ListN.{length};
 ghost use Rattle.laws.specs.Lists.{written};
+ghost use Rattle.stored_spec.specs.RowBytes.{twoBytes, room};
 ghost use Rattle.stored_spec.specs.StoredForm.{cellCount, cellAt};
 ghost use Rattle.stored_spec.specs.Run.{outputsAfter, railAfter};
 ghost use Rattle.bank_spec.specs.State.{recordsOf, rowsHeld, formed};
@@ -20,13 +21,14 @@ use bank_spec::BANK_OUTPUTS;
 use bank_spec::Bank;
 use bank_spec::Scan;
 use bank_spec::StepAnswer;
+use numbers::pair;
 use numbers::wide;
 use sheet_spec::MOST_OUTPUTS;
 use stored_spec::MOST_RECORD_BYTES;
 
 // The row that the next cell reads.
-fn next_row(bank: Bank, scan: Scan, rows: &[u8]) -> u8
-    requires { ⌜ (formed bank scan ≡ true) × (scan .running ≡ true) × (rowsHeld bank ≤ length (now rows)) ⌝ }
+fn next_row(bank: Bank, scan: Scan, rows: &[u8]) -> u16
+    requires { ⌜ (formed bank scan ≡ true) × (scan .running ≡ true) × (room twoBytes (rowsHeld bank) ≤ length (now rows)) ⌝ }
     ensures { λ r. ⌜ r ≡ nextRow bank scan (now (rows .entry)) ⌝ }
 {
     let b = wide(scan.block);
@@ -40,7 +42,8 @@ fn next_row(bank: Bank, scan: Scan, rows: &[u8]) -> u8
         scan.rail,
         words[b],
     );
-    rows[rows_before(bank, b) + place]
+    let at = (rows_before(bank, b) + place) * 2;
+    pair(rows[at], rows[at + 1])
 }
 
 // The cell of the next read is not the last of its block.
@@ -52,15 +55,15 @@ fn more_cells(bank: Bank, scan: Scan) -> bool
 }
 
 // The lowest bits of x.
-fn lowest(x: u8, bits: u8) -> u16
-    requires { ⌜ bits ≤ 8 ⌝ }
+fn lowest(x: u16, bits: u8) -> u16
+    requires { ⌜ bits ≤ 16 ⌝ }
     ensures { λ r. ⌜ r ≡ x % 2 ^ bits ⌝ }
 {
-    (x as u16) % (1 << bits)
+    ((x as u32) % (1 << bits)) as u16
 }
 
 // The rail word after the row x is read.
-fn rail_after(bank: Bank, scan: Scan, x: u8) -> u16
+fn rail_after(bank: Bank, scan: Scan, x: u16) -> u16
     requires { ⌜ (formed bank scan ≡ true) × (scan .running ≡ true) ⌝ }
     ensures { λ r. ⌜ r ≡ railAfter (cellAt (recordsOf bank (scan .block)) (scan .cell)) x ⌝ }
 {
@@ -69,7 +72,7 @@ fn rail_after(bank: Bank, scan: Scan, x: u8) -> u16
 }
 
 // All outputs after the row x is read.
-fn outputs_after(bank: Bank, scan: Scan, x: u8) -> [u8; BANK_OUTPUTS]
+fn outputs_after(bank: Bank, scan: Scan, x: u16) -> [u8; BANK_OUTPUTS]
     requires { ⌜ (formed bank scan ≡ true) × (scan .running ≡ true) ⌝ }
     ensures { λ r.
         ⌜ r
@@ -91,7 +94,7 @@ fn outputs_after(bank: Bank, scan: Scan, x: u8) -> [u8; BANK_OUTPUTS]
 }
 
 // The scan state moved on by one read, of the row x.
-fn moved_on(bank: Bank, scan: Scan, x: u8) -> Scan
+fn moved_on(bank: Bank, scan: Scan, x: u16) -> Scan
     requires { ⌜ (formed bank scan ≡ true) × (scan .running ≡ true) ⌝ }
     ensures { λ r. ⌜ r ≡ moved bank scan x ⌝ }
 {
@@ -142,7 +145,7 @@ pub fn step_once(bank: Bank, scan: Scan, rows: &[u8]) -> Stepped
             scan,
         };
     }
-    if rows.len() < rows_before(bank, wide(bank.count)) {
+    if rows.len() < rows_before(bank, wide(bank.count)) * 2 {
         return Stepped {
             answer: StepAnswer::Refused(11),
             scan,

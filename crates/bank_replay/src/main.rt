@@ -6,7 +6,7 @@ ghost use lib.ListN.{length};
 use libc::STDOUT_FILENO;
 use numbers::byte_at;
 use numbers::least;
-use stored_spec::MOST_ROWS;
+use stored_spec::MOST_ROW_BYTES;
 
 fn say(text: &[u8]) {
     io::write_all(STDOUT_FILENO, text);
@@ -99,23 +99,23 @@ fn say_bad_line(number: usize) {
     say(b": not understood\n");
 }
 
-fn row_memory() -> [u8; MOST_ROWS]
+fn row_memory() -> [u8; MOST_ROW_BYTES]
+    ensures { λ r. ⌜ 65536 ≡ length r ⌝ }
+{
+    [0u8; MOST_ROW_BYTES]
+}
+
+fn code_memory() -> [u8; 32768]
     ensures { λ r. ⌜ 32768 ≡ length r ⌝ }
 {
-    [0u8; MOST_ROWS]
+    [0u8; 32768]
 }
 
-fn code_memory() -> [u8; 16384]
-    ensures { λ r. ⌜ 16384 ≡ length r ⌝ }
+// 6,554 calls of 68 bytes: a text of 32,768 bytes has no more.
+fn trace_memory() -> [u8; 445672]
+    ensures { λ r. ⌜ 445672 ≡ length r ⌝ }
 {
-    [0u8; 16384]
-}
-
-// 3,277 calls of 68 bytes: a text of 16,384 bytes has no more.
-fn trace_memory() -> [u8; 222836]
-    ensures { λ r. ⌜ 222836 ≡ length r ⌝ }
-{
-    [0u8; 222836]
+    [0u8; 445672]
 }
 
 // Runs the calls on the row memory and prints their trace.
@@ -135,8 +135,8 @@ fn run_lines(lines: &[u8], memory: usize) {
     let mut code = code_memory();
     let mut rows = row_memory();
     let read = call_text::read_text(lines, 2, &mut code);
-    let size = least(read.size, 16384);
-    let lent = least(memory, MOST_ROWS);
+    let size = least(read.size, 32768);
+    let lent = least(memory, MOST_ROW_BYTES);
     run_calls(&code[..size], &mut rows[..lent]);
     if read.bad != 0 {
         say_bad_line(read.bad);
@@ -145,7 +145,7 @@ fn run_lines(lines: &[u8], memory: usize) {
 
 fn run_text(text: &[u8]) {
     let memory = call_text::memory_said(text);
-    if MOST_ROWS < memory {
+    if MOST_ROW_BYTES < memory {
         say_bad_line(1);
         return;
     }
@@ -158,8 +158,8 @@ fn run_text(text: &[u8]) {
 fn main() {
     let mut buf = io::large_buffer();
     let n = io::read_full(0, &mut buf);
-    if 16384 < n {
-        say(b"input over 16384 bytes\n");
+    if 32768 < n {
+        say(b"input over 32768 bytes\n");
         return;
     }
     run_text(&buf[..n]);

@@ -17,7 +17,8 @@ use Rattle.laws.proofs.Counts.{sum-ext, sum-at}
 use Rattle.laws.proofs.Filled.{length-written, getD-written, getD-before}
 use Rattle.stored_spec.specs.StoredForm.{wellFormed, cellCount, rowCount}
 use Rattle.stored_spec.specs.Run.{unset}
-use Rattle.stored_spec.proofs.Promises.{records-have, formed-records, row-bytes}
+use Rattle.stored_spec.specs.RowBytes.{twoBytes, rowValue, room}
+use Rattle.stored_spec.proofs.Promises.{records-have, formed-records, formed-parts, room-two, row-before, row-written}
 use Rattle.bank_spec.specs.State.{State, recordsOf, rowsHeld, cleared}
 use Rattle.bank_spec.specs.Calls.{numbered, admitRefusal, withBlock, admitted, admit, outputsOf, scanAt}
 use Rattle.bank_spec.specs.Book.{Block, Book, noBlock, blockAt, cellsIn, rowsIn, bookRefusal, wiped, entered, bookAdmit}
@@ -34,7 +35,7 @@ pub record Admits (S m : ℕ) (bs : List Block) (R bytes : List ℕ) : Type 0 wh
   pub well : wellFormed R bytes ≡ true
   pub few : length bs < 8
   pub cells : total cellCount bs (length bs) + cellCount R ≤ S
-  pub room : total rowCount bs (length bs) + rowCount R ≤ m
+  pub fits : room twoBytes (total rowCount bs (length bs) + rowCount R) ≤ m
   pub most : total rowCount bs (length bs) + rowCount R ≤ 32768
 
 admits : (S m : ℕ) (bs : List Block) (R bytes : List ℕ) → bookRefusal S m bs R bytes ≡ 0 → Admits S m bs R bytes
@@ -45,13 +46,13 @@ admits S m bs R bytes e =
     let a = cond-zero (not (wellFormed R bytes)) 11 _ e in
     let b = cond-zero (leb 8 (length bs)) 12 _ (a .1) in
     let c = cond-zero (ltb S cells) 13 _ (b .1) in
-    let d = cond-zero (ltb m rows || ltb 32768 rows) 10 _ (c .1) in
-    let f = or-split (ltb m rows) (ltb 32768 rows) (d .0) in
+    let d = cond-zero (ltb m (room twoBytes rows) || ltb 32768 rows) 10 _ (c .1) in
+    let f = or-split (ltb m (room twoBytes rows)) (ltb 32768 rows) (d .0) in
     record {
       well = not-false (wellFormed R bytes) (a .0);
       few = leb-false 8 (length bs) (b .0);
       cells = omega (arith, cells-in bs, ltb-false S cells (c .0));
-      room = omega (arith, rows-in bs, ltb-false m rows (f .0));
+      fits = omega (arith, ap (λ (n : ℕ). room twoBytes (n + rowCount R)) (rows-in bs), ltb-false m (room twoBytes rows) (f .0));
       most = omega (arith, rows-in bs, ltb-false 32768 rows (f .1));
     }
 
@@ -123,14 +124,18 @@ module _ (S m : ℕ) (s : State) (k : Book) (h : Related S m s k) (R bytes : Lis
 
     record-bytes : (length R ≡ length R / 4 * 4) × (1 ≤ length R / 4) × (length R / 4 ≤ 20)
     record-bytes =
-        let have = records-have R (formed-records R bytes (f .well)) in
+        let have = records-have twoBytes R (formed-records R bytes (f .well)) in
         (have .whole, have .some, have .few)
 
     records-fit : s .bank .count * 80 + length R ≤ length (s .bank .records)
     records-fit = omega (arith, h .count, h .records, record-bytes)
 
-    rows-fit : rowsHeld (s .bank) + length bytes ≤ length (s .rows)
-    rows-fit = omega (arith, rows-held S m s k h, h .rows, f .room, row-bytes R bytes (f .well))
+    row-bytes : length bytes ≡ rowCount R * 2
+    row-bytes = formed-parts twoBytes R bytes (f .well) .1 ∙ room-two (rowCount R)
+
+    rows-fit : room twoBytes (rowsHeld (s .bank)) + length bytes ≤ length (s .rows)
+    rows-fit =
+        omega (arith, rows-held S m s k h, h .rows, f .fits, room-two (rowsHeld (s .bank)), room-two (total rowCount bs n + rowCount R), row-bytes)
 
     old-block : (b : ℕ) → b < n → SameBlock t bs′ b
     unfolding admitted withBlock recordsOf wiped
@@ -151,9 +156,9 @@ module _ (S m : ℕ) (s : State) (k : Book) (h : Related S m s k) (R bytes : Lis
               λ i p.
               let p′ : i < rowCount (recordsIn bs b) = rw (old-records k R bytes b l) at p in
               let inside = sum-at (λ i. rowCount (recordsIn bs i)) n b l in
-              ap (λ (x : ℕ). getD (t .rows) (x + i) 0) (old-total k R bytes rowCount b (omega arith))
-              ∙ getD-before (s .rows) (rowsHeld (s .bank)) bytes rows-fit 0 (total rowCount bs b + i) (omega (arith, rows-held S m s k h))
-              ∙ q .rows i p′ ∙ ap (λ (x : Block). getD (x .rows) i 0) (sym e);
+              ap (λ (x : ℕ). rowValue twoBytes (t .rows) (x + i)) (old-total k R bytes rowCount b (omega arith))
+              ∙ row-before twoBytes (s .rows) (rowsHeld (s .bank)) bytes rows-fit (total rowCount bs b + i) (omega (arith, rows-held S m s k h))
+              ∙ q .rows i p′ ∙ ap (λ (x : Block). rowValue twoBytes (x .rows) i) (sym e);
           outputs = none-set false 0 0 0 _ b (omega arith) ∙ ap (λ (x : Block). x .outputs) (sym e);
         }
 
@@ -174,9 +179,9 @@ module _ (S m : ℕ) (s : State) (k : Book) (h : Related S m s k) (R bytes : Lis
           rows =
               λ i p.
               let p′ : i < rowCount R = rw (ap (λ (x : Block). x .records) e) at p in
-              ap (λ (x : ℕ). getD (t .rows) (x + i) 0) (old-total k R bytes rowCount n (omega arith) ∙ sym (rows-held S m s k h))
-              ∙ getD-written (s .rows) (rowsHeld (s .bank)) bytes rows-fit 0 i (omega (arith, row-bytes R bytes (f .well)))
-              ∙ ap (λ (x : Block). getD (x .rows) i 0) (sym e);
+              ap (λ (x : ℕ). rowValue twoBytes (t .rows) (x + i)) (old-total k R bytes rowCount n (omega arith) ∙ sym (rows-held S m s k h))
+              ∙ row-written twoBytes (s .rows) (rowsHeld (s .bank)) bytes rows-fit i (omega (arith, room-two (i + 1), row-bytes))
+              ∙ ap (λ (x : Block). rowValue twoBytes (x .rows) i) (sym e);
           outputs = none-set false 0 0 0 _ n (omega arith) ∙ ap (λ (x : Block). x .outputs) (sym e);
         }
 
@@ -194,10 +199,10 @@ module _ (S m : ℕ) (s : State) (k : Book) (h : Related S m s k) (R bytes : Lis
           lengths = length-set (s .bank .lengths) (s .bank .count) (length R / 4) ∙ h .lengths;
           records = length-written (s .bank .records) (s .bank .count * 80) R records-fit ∙ h .records;
           outputs = refl;
-          rows = length-written (s .rows) (rowsHeld (s .bank)) bytes rows-fit ∙ h .rows;
+          rows = length-written (s .rows) (room twoBytes (rowsHeld (s .bank))) bytes rows-fit ∙ h .rows;
           cells = omega (arith, f .cells);
           most = omega (arith, f .most);
-          room = omega (arith, f .room);
+          fits = rw D (f .fits);
           blocks = λ b l. last-or-below b n (omega arith) (λ e. rw e new-block) (λ p. old-block b p);
           rests = λ e. none-to-read k R bytes;
           runs = λ e. absurd (false≢true e);

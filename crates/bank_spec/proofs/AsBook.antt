@@ -9,6 +9,8 @@ use native.Mathlib.Omega.{arith}
 use lib.Dec.{ltb}
 use lib.ListN.{length}
 use Rattle.laws.specs.Tests.{within}
+use Rattle.stored_spec.specs.RowBytes.{twoBytes, room}
+use Rattle.stored_spec.proofs.Promises.{room-two}
 use Rattle.bank_spec.specs.State.{State, formed, rowsHeld, fresh}
 use Rattle.bank_spec.specs.Calls.{Answer, accepted, refused, idle, went, After, moved, nextRow, step}
 use Rattle.bank_spec.specs.Book.{Book, newBook}
@@ -54,7 +56,7 @@ fresh-related S e mem =
       rows = refl;
       cells = omega arith;
       most = omega arith;
-      room = omega arith;
+      fits = omega (arith, room-two 0);
       blocks = λ b l. absurd (not-suc-le-zero l);
       rests = λ p. refl;
       runs = λ p. absurd (false≢true p);
@@ -72,7 +74,7 @@ isIdle (went b c) = false
 
 pub idle-keeps : (s : State) → step s .answer ≡ idle → step s .state ≡ s
 unfolding step isIdle
-idle-keeps s = by (not (formed (s .bank) (s .scan))) (not (s .scan .running)) (ltb (length (s .rows)) (rowsHeld (s .bank)))
+idle-keeps s = by (not (formed (s .bank) (s .scan))) (not (s .scan .running)) (ltb (length (s .rows)) (room twoBytes (rowsHeld (s .bank))))
   where
     stay : Answer → After State
     stay a = record { answer = a; state = s }

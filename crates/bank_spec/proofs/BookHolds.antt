@@ -18,7 +18,8 @@ use Rattle.laws.proofs.Cases.{by-less, last-or-below, cond-each}
 use Rattle.laws.proofs.Counts.{sum-ext}
 use Rattle.sheet_spec.specs.Job.{Job}
 use Rattle.stored_spec.specs.StoredForm.{wellFormed, cellCount, rowCount}
-use Rattle.stored_spec.specs.Run.{run, unset}
+use Rattle.stored_spec.specs.Run.{run, unset, runBy}
+use Rattle.stored_spec.specs.RowBytes.{twoBytes, room}
 use Rattle.bank_spec.specs.Book.{Block, Book, newBook, noBlock, blockAt, cellsIn, rowsIn, bookRefusal, wiped, entered, bookAdmit, bookLatch, bookStep}
 use Rattle.bank_spec.specs.CallLists.{Call, admission, latching, stepping, bookCall, bookAfter}
 use Rattle.bank_spec.specs.Demand3.{CompiledBy, SetAllowed}
@@ -137,7 +138,7 @@ module _ (k : Book) (R bytes : List ℕ) where
       (ap (λ (B : Block). cellCount (B .records)) entered-new)
 
   entered-rests : Rests (entered k R bytes)
-  unfolding entered wiped run
+  unfolding entered wiped runBy
   entered-rests = record { none = refl; ran = entered-each Ran (0, omega arith, refl) (λ b l. (0, omega arith, refl)) }
 
 cond-zero : (b : Bool) (n x : ℕ) → 0 < n → cond b n x ≡ 0 → (b ≡ false) × (x ≡ 0)
@@ -153,7 +154,7 @@ not-refused : (S m : ℕ) (bs : List Block) (R bytes : List ℕ) → bookRefusal
     → (wellFormed R bytes ≡ true) × (length bs < 8) × (cellsIn bs + cellCount R ≤ S)
 unfolding bookRefusal
 not-refused S m bs R bytes e =
-    let unmet : ℕ = cond (ltb m (rowsIn bs + rowCount R) || ltb 32768 (rowsIn bs + rowCount R)) 11 0 in
+    let unmet : ℕ = cond (ltb m (room twoBytes (rowsIn bs + rowCount R)) || ltb 32768 (rowsIn bs + rowCount R)) 11 0 in
     let full : ℕ = cond (ltb S (cellsIn bs + cellCount R)) 14 unmet in
     let many : ℕ = cond (leb 8 (length bs)) 13 full in
     let p = cond-zero (not (wellFormed R bytes)) 12 many (omega arith) e in

@@ -13,6 +13,7 @@ use lib.Seq.{ext-getD}
 use Rattle.laws.proofs.Cases.{by-less}
 use Rattle.sheet_spec.specs.Job.{Job}
 use Rattle.stored_spec.specs.StoredForm.{wellFormed, cellCount, rowCount}
+use Rattle.stored_spec.specs.RowBytes.{twoBytes, room}
 use Rattle.bank_spec.specs.Calls.{Answer, accepted, refused, numbered, After}
 use Rattle.bank_spec.specs.Book.{Block, Place, Book, noBlock, blockAt, cellsIn, rowsIn, bookRefusal, allPlaces, entered, bookAdmit, bookLatch, bookStep}
 use Rattle.bank_spec.specs.CallLists.{Call, admission, latching, stepping, Entry, bookCall, bookAfter, outputsInBook, bookTrace, readsOf, stepsOf, ends, goesOn}
@@ -59,13 +60,13 @@ same-refusal S m bs cs R bytes kept =
     (λ (n c : ℕ).
     cond (not (wellFormed R bytes)) 12
     (cond (leb 8 n) 13
-    (cond (ltb S (c + cellCount R)) 14 (cond (ltb m (rowsIn bs + rowCount R) || ltb 32768 (rowsIn bs + rowCount R)) 11 0))))
+    (cond (ltb S (c + cellCount R)) 14 (cond (ltb m (room twoBytes (rowsIn bs + rowCount R)) || ltb 32768 (rowsIn bs + rowCount R)) 11 0))))
     (kept .long) (kept-cells bs cs kept)
     ∙ ap
     (λ (r : ℕ).
     cond (not (wellFormed R bytes)) 12
     (cond (leb 8 (length cs)) 13
-    (cond (ltb S (cellsIn cs + cellCount R)) 14 (cond (ltb m (r + rowCount R) || ltb 32768 (r + rowCount R)) 11 0))))
+    (cond (ltb S (cellsIn cs + cellCount R)) 14 (cond (ltb m (room twoBytes (r + rowCount R)) || ltb 32768 (r + rowCount R)) 11 0))))
     (kept-rows bs cs kept)
 
 -- what a step is answered depends on the places alone

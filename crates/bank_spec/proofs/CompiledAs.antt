@@ -11,6 +11,7 @@ use Rattle.laws.proofs.Cases.{either}
 use Rattle.sheet_spec.specs.Job.{Job, t}
 use Rattle.sheet_spec.specs.Table.{table}
 use Rattle.reduction_spec.specs.declared.Node.{Node}
+use Rattle.stored_spec.specs.RowBytes.{twoBytes, room}
 use Rattle.cutting_spec.specs.Compile.{Answer, refused, accepted, Totals, CompiledAs, made, refusal, acceptance, compileAs, compile}
 use Rattle.cutting_spec.proofs.Promises.{case, refuses, accepts, decided}
 use Rattle.bank_spec.specs.Book.{Block}
@@ -60,7 +61,7 @@ module _ {A : Type 0} (held : List Node → List A) (nodes : List A) (records ro
   as-table = accepts (λ xs. xs) tableNodes records rows j s none-table
 
   pub as-compiled : (B : Block) → B .records ≡ take (4 * t j) (compileAs held nodes records rows j s .records)
-      → B .rows ≡ take (T .rows) (compileAs held nodes records rows j s .rows) → CompiledBy j s B
+      → B .rows ≡ take (room twoBytes (T .rows)) (compileAs held nodes records rows j s .rows) → CompiledBy j s B
   unfolding acceptance
   as-compiled B p q =
       record {
@@ -74,6 +75,6 @@ module _ {A : Type 0} (held : List Node → List A) (nodes : List A) (records ro
             p ∙ ap (λ (r : CompiledAs A). take (4 * t j) (r .records)) as-held
             ∙ sym (ap (λ (r : CompiledAs Node). take (4 * t j) (r .records)) as-table);
         rowsWritten =
-            q ∙ ap (λ (r : CompiledAs A). take (T .rows) (r .rows)) as-held
-            ∙ sym (ap (λ (r : CompiledAs Node). take (T .rows) (r .rows)) as-table);
+            q ∙ ap (λ (r : CompiledAs A). take (room twoBytes (T .rows)) (r .rows)) as-held
+            ∙ sym (ap (λ (r : CompiledAs Node). take (room twoBytes (T .rows)) (r .rows)) as-table);
       }

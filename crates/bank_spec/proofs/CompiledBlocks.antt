@@ -19,11 +19,13 @@ use Rattle.sheet_spec.specs.Table.{table}
 use Rattle.sheet_spec.proofs.Promises.{job-accepted, output-height}
 use Rattle.reduction_spec.specs.declared.Node.{Node}
 use Rattle.reduction_spec.specs.Merge.{reduced, refuse7}
+use Rattle.stored_spec.specs.RowBytes.{twoBytes, room}
 use Rattle.stored_spec.specs.StoredForm.{cellCount, wellFormed}
 use Rattle.stored_spec.specs.Run.{Running, run}
+use Rattle.stored_spec.proofs.Promises.{length-rowBytes}
 use Rattle.cutting_spec.specs.Choice.{refuse8}
 use Rattle.cutting_spec.specs.Compile.{Answer, refused, accepted, CompiledAs, made, totals, acceptance, compile}
-use Rattle.cutting_spec.proofs.Promises.{case, accepts, cuts-some, length-stored, Emitted, emitted-allowed, compiled-unset, cells-count, made-formed, made-cuts, made-count, made-emits, made-all}
+use Rattle.cutting_spec.proofs.Promises.{case, accepts, cuts-some, length-stored, Emitted, emitted-allowed, compiled-unset, cells-count, made-formed, made-cuts, made-count, made-run, made-emits, made-all}
 use Rattle.bank_spec.specs.Book.{Block}
 use Rattle.bank_spec.specs.Demand3.{CompiledBy, SetAllowed}
 use Rattle.bank_spec.proofs.CompiledAs.{none}
@@ -59,9 +61,11 @@ module _ (j : Job) (s : List ℕ) (B : Block) (c : CompiledBy j s B) where
   unfolding made
   records-made = length-stored j (made j (table j s) .widths) (made j (table j s) .cuts)
 
-  rows-made : c .totals .rows ≡ length (made j (table j s) .rows)
-  unfolding acceptance totals rowsAnswered
-  rows-made = sym (ap rowsAnswered (c .accepted)) ∙ ap (λ (r : CompiledAs Node). rowsAnswered (r .answer)) accepted-as
+  rows-made : room twoBytes (c .totals .rows) ≡ length (made j (table j s) .rowBytes)
+  unfolding acceptance totals rowsAnswered made
+  rows-made =
+      ap (room twoBytes) (sym (ap rowsAnswered (c .accepted)) ∙ ap (λ (r : CompiledAs Node). rowsAnswered (r .answer)) accepted-as)
+      ∙ sym (length-rowBytes twoBytes (made j (table j s) .rows))
 
   pub compiled-records : B .records ≡ made j (table j s) .records
   unfolding acceptance
@@ -70,17 +74,17 @@ module _ (j : Job) (s : List ℕ) (B : Block) (c : CompiledBy j s B) where
       c .recordsWritten ∙ ap (λ (r : CompiledAs Node). take (4 * t j) (r .records)) accepted-as
       ∙ ap (λ (n : ℕ). take n (written (c .records) 0 R)) (sym records-made) ∙ written-front R (c .records)
 
-  pub compiled-rows : B .rows ≡ made j (table j s) .rows
+  pub compiled-rows : B .rows ≡ made j (table j s) .rowBytes
   unfolding acceptance
   compiled-rows =
-      let bytes = made j (table j s) .rows in
-      c .rowsWritten ∙ ap (λ (r : CompiledAs Node). take (c .totals .rows) (r .rows)) accepted-as
+      let bytes = made j (table j s) .rowBytes in
+      c .rowsWritten ∙ ap (λ (r : CompiledAs Node). take (room twoBytes (c .totals .rows)) (r .rows)) accepted-as
       ∙ ap (λ (n : ℕ). take n (written (c .rows) 0 bytes)) rows-made ∙ written-front bytes (c .rows)
 
   pub compiled-formed : wellFormed (B .records) (B .rows) ≡ true
   compiled-formed = ap₂ wellFormed compiled-records compiled-rows ∙ made-formed j s compiled-sheet compiled-cut
 
-  run-made : (w k : ℕ) → run (B .records) (B .rows) w k ≡ run (made j (table j s) .records) (made j (table j s) .rows) w k
+  run-made : (w k : ℕ) → run (B .records) (B .rows) w k ≡ run (made j (table j s) .records) (made j (table j s) .rowBytes) w k
   run-made w k = ap₂ (λ (R bytes : List ℕ). run R bytes w k) compiled-records compiled-rows
 
   -- after k cells, at the k-th cut: the rail word, the outputs above the cut, and no others
@@ -96,8 +100,8 @@ module _ (j : Job) (s : List ℕ) (B : Block) (c : CompiledBy j s B) where
   compiled-whole w o h =
       let all = made-all j s compiled-sheet compiled-cut w o h in
       let is : run (B .records) (B .rows) w (cellCount (B .records))
-      ≡ run (made j (table j s) .records) (made j (table j s) .rows) w (made j (table j s) .cells) =
-      run-made w (cellCount (B .records)) ∙ ap (run (made j (table j s) .records) (made j (table j s) .rows) w) compiled-cells in
+      ≡ run (made j (table j s) .records) (made j (table j s) .rowBytes) w (made j (table j s) .cells) =
+      run-made w (cellCount (B .records)) ∙ ap (run (made j (table j s) .records) (made j (table j s) .rowBytes) w) compiled-cells in
       rw is (record { isSet = all .0; allowed = all .1 })
 
   cuts-made : made j (table j s) .cells ≡ length (made j (table j s) .cuts) - 1
@@ -109,7 +113,7 @@ module _ (j : Job) (s : List ℕ) (B : Block) (c : CompiledBy j s B) where
       → getD (run (B .records) (B .rows) w k .outputs) (varAt j (suc h) - 128) 2 ≡ 2
   unfolding made
   unset-below w k h p below output =
-      ap (λ (r : Running). getD (r .outputs) (varAt j (suc h) - 128) 2) (run-made w k)
+      ap (λ (r : Running). getD (r .outputs) (varAt j (suc h) - 128) 2) (run-made w k ∙ made-run j s compiled-sheet compiled-cut w k p)
       ∙ compiled-unset j s compiled-sheet (made j (table j s) .cuts) (made-cuts j s compiled-sheet compiled-cut) w k h p below output
 
   -- after k cells each output is unset or set to an allowed value

@@ -6,7 +6,7 @@ use Prim.Native.Nat.{ℕ}
 use lib.ListN.{replicate}
 use Rattle.sheet_spec.specs.Opened.{sheetOpened}
 use Rattle.cutting_spec.specs.Opened.{cuttingOpened}
-use Rattle.cutting_spec.specs.Example.{recordsA, rowsA}
+use Rattle.cutting_spec.specs.Example.{recordsA, rowBytesA}
 use Rattle.bank_spec.specs.Opened.{bankOpened}
 use Rattle.bank_spec.specs.State.{fresh}
 use Rattle.bank_spec.specs.Calls.{Answer, accepted, refused, idle, went}
@@ -14,17 +14,17 @@ use Rattle.bank_spec.specs.Book.{newBook}
 use Rattle.bank_spec.specs.CallLists.{Call, admission, latching, stepping, Entry, trace, bookTrace}
 
 abbrev admitA : Call
-admitA = admission recordsA rowsA
+admitA = admission recordsA rowBytesA
 
 abbrev answers : List Entry → List Answer
 answers es = map (λ e. e .answer) es
 
 -- K: cells are counted over the bank
-pub twice-3 : answers (trace (fresh 3 (replicate 32 9)) (admitA ∷ admitA ∷ [])) ≡ accepted ∷ refused 14 ∷ []
+pub twice-3 : answers (trace (fresh 3 (replicate 64 9)) (admitA ∷ admitA ∷ [])) ≡ accepted ∷ refused 14 ∷ []
 unfolding sheetOpened cuttingOpened bankOpened
 twice-3 = refl
 
-pub twice-3-book : answers (bookTrace 3 32 newBook (admitA ∷ admitA ∷ [])) ≡ accepted ∷ refused 14 ∷ []
+pub twice-3-book : answers (bookTrace 3 64 newBook (admitA ∷ admitA ∷ [])) ≡ accepted ∷ refused 14 ∷ []
 unfolding sheetOpened cuttingOpened bankOpened
 twice-3-book = refl
 
@@ -54,15 +54,15 @@ expected =
     ∷ said idle (first ∷ second ∷ [])
     ∷ []
 
-pub scan-4 : trace (fresh 4 (replicate 32 9)) scanOfBoth ≡ expected
+pub scan-4 : trace (fresh 4 (replicate 64 9)) scanOfBoth ≡ expected
 unfolding sheetOpened cuttingOpened bankOpened
 scan-4 = refl
 
-pub scan-4-book : bookTrace 4 32 newBook scanOfBoth ≡ expected
+pub scan-4-book : bookTrace 4 64 newBook scanOfBoth ≡ expected
 unfolding sheetOpened cuttingOpened bankOpened
 scan-4-book = refl
 
--- 31 bytes of row memory: 11
-pub short-rows : answers (trace (fresh 4 (replicate 31 9)) (admitA ∷ admitA ∷ [])) ≡ accepted ∷ refused 11 ∷ []
+-- 63 bytes of row memory: 11
+pub short-rows : answers (trace (fresh 4 (replicate 63 9)) (admitA ∷ admitA ∷ [])) ≡ accepted ∷ refused 11 ∷ []
 unfolding sheetOpened cuttingOpened bankOpened
 short-rows = refl

@@ -14,6 +14,7 @@ use Rattle.laws.specs.Lists.{tab}
 use Rattle.laws.proofs.Cases.{cond-yes}
 use Rattle.laws.proofs.Counts.{sum-ext}
 use Rattle.laws.proofs.Lists.{length-tab, getD-tab}
+use Rattle.stored_spec.specs.RowBytes.{twoBytes, rowValue, room}
 use Rattle.stored_spec.specs.StoredForm.{wellFormed, cellCount, cellAt, rowCount}
 use Rattle.stored_spec.proofs.Promises.{SameInputs, some-cell, kept-inputs}
 use Rattle.bank_spec.specs.State.{State, Bank}
@@ -82,8 +83,8 @@ module _ (S m : ℕ) (s : State) (k : Book) (h : Related S m s k) (ws : List ℕ
         rows =
             λ i p.
             let p′ : i < rowCount (recordsIn bs b) = rw (same-records b l) at p in
-            ap (λ (x : ℕ). getD (s .rows) (x + i) 0) (same-total rowCount b (omega arith)) ∙ q .rows i p′
-            ∙ ap (λ (x : Block). getD (x .rows) i 0) (sym e);
+            ap (λ (x : ℕ). rowValue twoBytes (s .rows) (x + i)) (same-total rowCount b (omega arith)) ∙ q .rows i p′
+            ∙ ap (λ (x : Block). rowValue twoBytes (x .rows) i) (sym e);
         outputs = none-set _ 0 0 0 _ b (omega (arith, h .few)) ∙ ap (λ (x : Block). x .outputs) (sym e);
       }
 
@@ -118,7 +119,7 @@ module _ (S m : ℕ) (s : State) (k : Book) (h : Related S m s k) (ws : List ℕ
         rows = h .rows;
         cells = omega (arith, total-all cellCount, h .cells);
         most = omega (arith, total-all rowCount, h .most);
-        room = omega (arith, total-all rowCount, h .room);
+        fits = omega (arith, ap (room twoBytes) (total-all rowCount), h .fits);
         blocks = λ b l. latched-block b (omega (arith, same-length));
         rests = λ e. no-places bs (omega (arith, ltb-false 0 (s .bank .count) e, h .count));
         runs = λ e. starts (omega (arith, ltb-true 0 (s .bank .count) e, h .count));

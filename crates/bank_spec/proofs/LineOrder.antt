@@ -9,6 +9,7 @@ use Rattle.sheet_spec.specs.Job.{Job, t}
 use Rattle.sheet_spec.specs.Values.{allows}
 use Rattle.sheet_spec.specs.SameRecords.{SameRecords}
 use Rattle.sheet_spec.proofs.Promises.{value-same}
+use Rattle.stored_spec.specs.RowBytes.{twoBytes, room}
 use Rattle.cutting_spec.specs.Compile.{Compiled, compile}
 use Rattle.cutting_spec.proofs.Promises.{compile-same}
 use Rattle.bank_spec.specs.Book.{Block}
@@ -27,7 +28,7 @@ module _ (s z : List ℕ) (h : SameRecords s z) where
         totals = c .totals;
         accepted = sym (ap (λ (r : Compiled). r .answer) e) ∙ c .accepted;
         recordsWritten = c .recordsWritten ∙ ap (λ (r : Compiled). take (4 * t j) (r .records)) e;
-        rowsWritten = c .rowsWritten ∙ ap (λ (r : Compiled). take (c .totals .rows) (r .rows)) e;
+        rowsWritten = c .rowsWritten ∙ ap (λ (r : Compiled). take (room twoBytes (c .totals .rows)) (r .rows)) e;
       }
 
   pub allowed-same : (w o v : ℕ) → SetAllowed s w o v → SetAllowed z w o v

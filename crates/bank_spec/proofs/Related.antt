@@ -19,6 +19,7 @@ use Rattle.bank_spec.specs.State.{State, Scan, recordsOf, cellsBefore, r
 use Rattle.bank_spec.specs.Calls.{After, outputsOf}
 use Rattle.bank_spec.specs.Book.{Block, Book, noBlock, blockAt, cellsIn, rowsIn, allPlaces}
 use Rattle.bank_spec.specs.CallLists.{outputsHeld, outputsInBook}
+use Rattle.stored_spec.specs.RowBytes.{twoBytes, rowValue, room}
 use Rattle.laws.proofs.Parts.{map-at}
 
 abbrev pub recordsIn : List Block → ℕ → List ℕ
@@ -33,7 +34,7 @@ pub record SameBlock (s : State) (bs : List Block) (b : ℕ) : Type 0 where
   pub size : within 1 20 (getD (s .bank .lengths) b 0) ≡ true
   pub records : recordsOf (s .bank) b ≡ recordsIn bs b
   pub well : wellFormed (recordsIn bs b) (blockAt bs b .rows) ≡ true
-  pub rows : (i : ℕ) → i < rowCount (recordsIn bs b) → getD (s .rows) (total rowCount bs b + i) 0 ≡ getD (blockAt bs b .rows) i 0
+  pub rows : (i : ℕ) → i < rowCount (recordsIn bs b) → rowValue twoBytes (s .rows) (total rowCount bs b + i) ≡ rowValue twoBytes (blockAt bs b .rows) i
   pub outputs : outputsOf (s .scan) b ≡ blockAt bs b .outputs
 
 -- the scan stands at the first of the cells that the book has yet to read
@@ -57,7 +58,7 @@ pub record Related (S m : ℕ) (s : State) (k : Book) : Type 0 where
   pub rows : length (s .rows) ≡ m
   pub cells : total cellCount (k .blocks) (length (k .blocks)) ≤ S
   pub most : total rowCount (k .blocks) (length (k .blocks)) ≤ 32768
-  pub room : total rowCount (k .blocks) (length (k .blocks)) ≤ m
+  pub fits : room twoBytes (total rowCount (k .blocks) (length (k .blocks))) ≤ m
   pub blocks : (b : ℕ) → b < length (k .blocks) → SameBlock s (k .blocks) b
   pub rests : s .scan .running ≡ false → k .toRead ≡ []
   pub runs : s .scan .running ≡ true → Stands (s .scan) k

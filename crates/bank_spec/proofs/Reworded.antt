@@ -8,6 +8,7 @@ use native.Mathlib.Omega.{arith}
 use lib.ListN.{length, getD, drop}
 use Rattle.laws.specs.Bits.{bit}
 use Rattle.laws.proofs.Counts.{sum-ext}
+use Rattle.stored_spec.specs.RowBytes.{twoBytes, rowValue, room}
 use Rattle.stored_spec.specs.StoredForm.{wellFormed, cellCount, rowCount}
 use Rattle.bank_spec.specs.State.{State}
 use Rattle.bank_spec.specs.Calls.{outputsOf}
@@ -41,8 +42,8 @@ module _ (S m : ℕ) (s : State) (k l : Book) (vs : List ℕ) (h : Related S m s
         rows =
             λ i g.
             let g′ : i < rowCount (recordsIn (k .blocks) b) = rw (r .kept .records b) at g in
-            ap (λ (x : ℕ). getD (s .rows) (x + i) 0) (same-total rowCount b) ∙ q .rows i g′
-            ∙ ap (λ (x : List ℕ). getD x i 0) (sym (r .kept .rows b));
+            ap (λ (x : ℕ). rowValue twoBytes (s .rows) (x + i)) (same-total rowCount b) ∙ q .rows i g′
+            ∙ ap (λ (x : List ℕ). rowValue twoBytes x i) (sym (r .kept .rows b));
         outputs = q .outputs ∙ r .outputs b p;
       }
 
@@ -79,7 +80,7 @@ module _ (S m : ℕ) (s : State) (k l : Book) (vs : List ℕ) (h : Related S m s
         rows = h .rows;
         cells = omega (arith, total-all cellCount, h .cells);
         most = omega (arith, total-all rowCount, h .most);
-        room = omega (arith, total-all rowCount, h .room);
+        fits = omega (arith, ap (room twoBytes) (total-all rowCount), h .fits);
         blocks = λ b p. reworded-block b (omega (arith, p, r .kept .long));
         rests = λ e. r .left ∙ h .rests e;
         runs = λ e. reworded-stands e;

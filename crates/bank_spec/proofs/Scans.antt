@@ -13,7 +13,7 @@ use Rattle.laws.proofs.Cases.{by-less, by-equal, last-or-below}
 use Rattle.laws.proofs.Counts.{sum-ext, sum-fewer, sum-at}
 use Rattle.laws.proofs.Lists.{length-tab, getD-tab, tab-ext, length-joined}
 use Rattle.stored_spec.specs.StoredForm.{cellCount}
-use Rattle.stored_spec.specs.Run.{run, ranOne}
+use Rattle.stored_spec.specs.Run.{run, runBy, ranOneBy}
 use Rattle.bank_spec.specs.Book.{Block, Place, Book, noBlock, blockAt, cellsIn, wiped, allPlaces, bookLatch, readCell, bookStep}
 
 -- the block with the word w, after k of its cells are read
@@ -110,7 +110,7 @@ stepped-front (suc n) k = ap (λ (x : Book). bookStep (x .blocks) (x .toRead) .s
 
 -- one cell more
 read-next : (B : Block) (w c : ℕ) → readCell (afterCells B w c) c ≡ afterCells B w (suc c)
-unfolding readCell run ranOne
+unfolding readCell runBy ranOneBy
 read-next B w c = refl
 
 module _ (bs : List Block) (ws : List ℕ) where
@@ -121,7 +121,7 @@ module _ (bs : List Block) (ws : List ℕ) where
   bookAfterSteps s = record { blocks = tab (length bs) (blockAfter s); toRead = drop s (allPlaces bs) }
 
   at-latch : (ps : List Place) → bookLatch (record { blocks = bs; toRead = ps }) ws .state ≡ bookAfterSteps 0
-  unfolding bookLatch wiped run
+  unfolding bookLatch wiped runBy
   at-latch ps =
       ap (λ (l : List Block). record { blocks = l; toRead = allPlaces bs })
       (tab-ext (λ b. wiped (getD ws b 0) (blockAt bs b)) (blockAfter 0) (length bs)

@@ -13,6 +13,7 @@ use Rattle.laws.specs.Lists.{written}
 use Rattle.laws.proofs.Cases.{and-split, cond-each, cond-both, cond-zero}
 use Rattle.laws.proofs.Lists.{length-tab}
 use Rattle.laws.proofs.Filled.{length-written}
+use Rattle.stored_spec.specs.RowBytes.{twoBytes, room}
 use Rattle.stored_spec.specs.StoredForm.{wellFormed, cellCount, cellAt}
 use Rattle.stored_spec.specs.Run.{outputsAfter}
 use Rattle.stored_spec.proofs.Promises.{records-have, formed-records, set-length}
@@ -52,7 +53,7 @@ module _ (s : State) (h : Sized s) where
       let ok = formed (s .bank) (s .scan) in
       let a = cond-zero (not (ok && wellFormed R bytes)) 11 _ e in
       let b = cond-zero (leb 8 (s .bank .count)) 12 _ (a .1) in
-      let have = records-have R (formed-records R bytes (and-split ok (wellFormed R bytes) (not-false (ok && wellFormed R bytes) (a .0)) .1)) in
+      let have = records-have twoBytes R (formed-records R bytes (and-split ok (wellFormed R bytes) (not-false (ok && wellFormed R bytes) (a .0)) .1)) in
       let few = leb-false 8 (s .bank .count) (b .0) in
       let fits : s .bank .count * 80 + length R ≤ length (s .bank .records) = omega (arith, h .records, have .whole, have .few) in
       record {
@@ -114,7 +115,7 @@ module _ (s : State) (h : Sized s) where
       (λ e.
       cond-each (λ (r : After State). Sized (r .state)) (not (t .running)) (λ f. h)
       (λ f.
-      cond-both (λ (r : After State). Sized (r .state)) (ltb (length (s .rows)) (rowsHeld k)) h
+      cond-both (λ (r : After State). Sized (r .state)) (ltb (length (s .rows)) (room twoBytes (rowsHeld k))) h
       (let good = not-false (formed k t) e in
       let run = not-false (t .running) f in
       moved-sized (nextRow k t (s .rows)) (omega (arith, few-blocks k t good, next-held k t good run)))))

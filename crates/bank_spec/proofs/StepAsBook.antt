@@ -18,6 +18,7 @@ use Rattle.laws.specs.Lists.{written}
 use Rattle.laws.proofs.Cases.{by-test, by-less, by-equal, cond-yes, cond-no}
 use Rattle.laws.proofs.Counts.{sum-ext, sum-at}
 use Rattle.laws.proofs.Filled.{length-written}
+use Rattle.stored_spec.specs.RowBytes.{twoBytes, rowValue, room}
 use Rattle.stored_spec.specs.StoredForm.{wellFormed, cellCount, cellAt, rowCount}
 use Rattle.stored_spec.specs.Run.{rowPlace, outputsAfter, railAfter}
 use Rattle.stored_spec.proofs.Promises.{some-cell, rails-follow, row-within, same-place, set-length}
@@ -73,7 +74,7 @@ module _ (S m : ℕ) (s : State) (k : Book) (h : Related S m s k) (on : s .scan 
 
   -- the row that the book reads
   abbrev x : ℕ
-  x = getD (blockAt bs b .rows) (rowPlace R c (blockAt bs b .rail) (blockAt bs b .word)) 0
+  x = rowValue twoBytes (blockAt bs b .rows) (rowPlace R c (blockAt bs b .rail) (blockAt bs b .word))
 
   abbrev bs′ : List Block
   bs′ = set bs b (readCell (blockAt bs b) c)
@@ -91,8 +92,8 @@ module _ (S m : ℕ) (s : State) (k : Book) (h : Related S m s k) (on : s .scan 
   unfolding nextRow
   next-row =
       let w = getD (s .scan .words) b 0 in
-      ap (λ (R : List ℕ). getD (s .rows) (rowsBefore (s .bank) b + rowPlace R c (s .scan .rail) w) 0) in-bank
-      ∙ ap₂ (λ (y z : ℕ). getD (s .rows) (y + z) 0) (rows-before S m s k h b (omega (arith, q .block)))
+      ap (λ (R : List ℕ). rowValue twoBytes (s .rows) (rowsBefore (s .bank) b + rowPlace R c (s .scan .rail) w)) in-bank
+      ∙ ap₂ (λ (y z : ℕ). rowValue twoBytes (s .rows) (y + z)) (rows-before S m s k h b (omega (arith, q .block)))
       (same-place R (records-formed S m s k h b (q .block)) c (s .scan .rail) w (blockAt bs b .word) (q .words b (q .block))
       ∙ ap (λ (r : ℕ). rowPlace R c r (blockAt bs b .word)) (q .rail))
       ∙ h .blocks b (q .block) .rows (rowPlace R c (blockAt bs b .rail) (blockAt bs b .word))
@@ -180,7 +181,7 @@ module _ (S m : ℕ) (s : State) (k : Book) (h : Related S m s k) (on : s .scan 
           rows =
               λ i p.
               let p′ : i < rowCount (recordsIn bs a) = rw (same-records a) at p in
-              ap (λ (y : ℕ). getD (s .rows) (y + i) 0) (same-total rowCount a) ∙ e .rows i p′ ∙ ap (λ (y : List ℕ). getD y i 0) (sym (same-rows a));
+              ap (λ (y : ℕ). rowValue twoBytes (s .rows) (y + i)) (same-total rowCount a) ∙ e .rows i p′ ∙ ap (λ (y : List ℕ). rowValue twoBytes y i) (sym (same-rows a));
           outputs = ap (part (a * 8) 8) o ∙ part-outs a l;
         }
 
@@ -197,7 +198,7 @@ module _ (S m : ℕ) (s : State) (k : Book) (h : Related S m s k) (on : s .scan 
           rows = h .rows;
           cells = omega (arith, total-all cellCount, h .cells);
           most = omega (arith, total-all rowCount, h .most);
-          room = omega (arith, total-all rowCount, h .room);
+          fits = omega (arith, ap (room twoBytes) (total-all rowCount), h .fits);
           blocks = λ a l. moved-block a (omega (arith, same-length));
           rests = f;
           runs = g;
@@ -278,8 +279,8 @@ module _ (S m : ℕ) (s : State) (k : Book) (h : Related S m s k) (on : s .scan 
   unfolding step
   step-is =
       cond-no (not (formed (s .bank) (s .scan))) _ _ (ap not (all-formed S m s k h)) ∙ cond-no (not (s .scan .running)) _ _ (ap not on)
-      ∙ cond-no (ltb (length (s .rows)) (rowsHeld (s .bank))) _ _
-      (le-ltb (length (s .rows)) (rowsHeld (s .bank)) (omega (arith, rows-held S m s k h, h .rows, h .room)))
+      ∙ cond-no (ltb (length (s .rows)) (room twoBytes (rowsHeld (s .bank)))) _ _
+      (le-ltb (length (s .rows)) (room twoBytes (rowsHeld (s .bank))) (omega (arith, ap (room twoBytes) (rows-held S m s k h), h .rows, h .fits)))
       ∙ ap (λ (t : Scan). record { answer = went b c; state = record { bank = s .bank; scan = t; rows = s .rows } }) moved-is
 
   book-is : bookStep bs (k .toRead) ≡ record { answer = went b c; state = k′ }

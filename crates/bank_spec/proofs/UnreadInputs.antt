@@ -7,6 +7,7 @@ use native.Mathlib.Nat.{not-suc-le-zero, le-of-suc-le-suc}
 use native.Mathlib.Omega.{arith}
 use lib.ListN.{length, getD, take, length-take}
 use lib.Seq.{getD-take}
+use Rattle.stored_spec.specs.RowBytes.{twoBytes, rowValue}
 use Rattle.stored_spec.specs.StoredForm.{cellAt}
 use Rattle.stored_spec.specs.Run.{AgreeOn, Running, run}
 use Rattle.stored_spec.proofs.Promises.{same-run}
@@ -51,4 +52,4 @@ same-scan k ws vs s l u b h = (
 
     same : run (B .records) (B .rows) (getD ws b 0) (readIn (k .blocks) s b) ≡ run (B .records) (B .rows) (getD vs b 0) (readIn (k .blocks) s b)
     same =
-        same-run (B .records) (B .rows) (getD ws b 0) (getD vs b 0) (readIn (k .blocks) s b) (λ c q. agree-read (k .blocks) ws vs s u b c h q)
+        same-run (rowValue twoBytes (B .rows)) (B .records) (getD ws b 0) (getD vs b 0) (readIn (k .blocks) s b) (λ c q. agree-read (k .blocks) ws vs s u b c h q)

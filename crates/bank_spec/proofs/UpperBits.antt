@@ -11,6 +11,7 @@ use lib.ListN.{length, set}
 use lib.Pow.{pow-pos, shr-shr, mod-mod-pow}
 use Rattle.laws.specs.Bits.{bit}
 use Rattle.laws.proofs.Bits.{bit-low}
+use Rattle.stored_spec.specs.RowBytes.{twoBytes, room}
 use Rattle.stored_spec.specs.StoredForm.{StoredCell, cellAt}
 use Rattle.stored_spec.specs.Run.{setOutputs, outputsAfter, railAfter}
 use Rattle.bank_spec.specs.State.{State, Bank, Scan, recordsOf, rowsHeld, formed, stateOf}
@@ -59,7 +60,7 @@ module _ (k : Bank) (s : Scan) where
       → nextRow k s rows % 2 ^ (length (next .outs) + next .lower) ≡ nextRow k s rows′ % 2 ^ (length (next .outs) + next .lower)
       → (step (stateOf k s rows) .answer ≡ step (stateOf k s rows′) .answer) × (step (stateOf k s rows) .state .scan ≡ step (stateOf k s rows′) .state .scan)
   unfolding step
-  upper-bits rows rows′ e same = rw e (alike (not (formed k s)) (not (s .running)) (ltb (length rows′) (rowsHeld k)))
+  upper-bits rows rows′ e same = rw e (alike (not (formed k s)) (not (s .running)) (ltb (length rows′) (room twoBytes (rowsHeld k))))
     where
       stepped : Bool → Bool → Bool → List ℕ → After State
       stepped a b c held =

@@ -10,6 +10,7 @@ use Rattle.laws.specs.Tests.{sum}
 use Rattle.laws.specs.Lists.{tab, joined}
 use Rattle.sheet_spec.specs.Limits.{mostBlocks, mostRows}
 use Rattle.stored_spec.specs.StoredForm.{wellFormed, cellCount, cellAt, rowCount}
+use Rattle.stored_spec.specs.RowBytes.{twoBytes, rowValue, room}
 use Rattle.stored_spec.specs.Run.{rowPlace, outputsAfter, railAfter, unset}
 use Rattle.bank_spec.specs.Calls.{accepted, idle, went, After, numbered}
 
@@ -54,7 +55,7 @@ bookRefusal S m bs R bytes =
     cond (not (wellFormed R bytes)) 12
     (cond (leb mostBlocks (length bs)) 13
     (cond (ltb S (cellsIn bs + cellCount R)) 14
-    (cond (ltb m (rowsIn bs + rowCount R) || ltb mostRows (rowsIn bs + rowCount R)) 11 0)))
+    (cond (ltb m (room twoBytes (rowsIn bs + rowCount R)) || ltb mostRows (rowsIn bs + rowCount R)) 11 0)))
 
 -- the block with the word w, its rail word 0 and nothing set
 unfoldable pub wiped : ℕ → Block → Block
@@ -85,7 +86,7 @@ bookLatch k ws =
 -- the block after its cell c is read
 unfoldable pub readCell : Block → ℕ → Block
 readCell b c =
-    let x = getD (b .rows) (rowPlace (b .records) c (b .rail) (b .word)) 0 in
+    let x = rowValue twoBytes (b .rows) (rowPlace (b .records) c (b .rail) (b .word)) in
     record {
       records = b .records;
       rows = b .rows;

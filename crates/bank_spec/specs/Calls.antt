@@ -8,6 +8,7 @@ use lib.ListN.{length, getD, set, take, drop}
 use Rattle.laws.specs.Lists.{tab, written}
 use Rattle.sheet_spec.specs.Limits.{mostBlocks, mostOutputs, mostRows, mostRecordBytes}
 use Rattle.stored_spec.specs.StoredForm.{wellFormed, cellCount, cellAt, rowCount}
+use Rattle.stored_spec.specs.RowBytes.{twoBytes, rowValue, room}
 use Rattle.stored_spec.specs.Run.{rowPlace, outputsAfter, railAfter}
 use Rattle.bank_spec.specs.State.{State, Bank, Scan, recordsOf, cellsHeld, rowsBefore, rowsHeld, formed, atRest, cleared}
 pub use Rattle.bank_spec.specs.declared.StepAnswer.{StepAnswer}
@@ -40,7 +41,7 @@ admitRefusal s R bytes =
     cond (not (formed (s .bank) (s .scan) && wellFormed R bytes)) 12
     (cond (leb mostBlocks (s .bank .count)) 13
     (cond (ltb (s .bank .limit) (cellsHeld (s .bank) + cellCount R)) 14
-    (cond (ltb (length (s .rows)) (rowsHeld (s .bank) + rowCount R) || ltb mostRows (rowsHeld (s .bank) + rowCount R)) 11 0)))
+    (cond (ltb (length (s .rows)) (room twoBytes (rowsHeld (s .bank) + rowCount R)) || ltb mostRows (rowsHeld (s .bank) + rowCount R)) 11 0)))
 
 -- admission copies a block's records
 unfoldable pub withBlock : Bank → List ℕ → Bank
@@ -55,7 +56,7 @@ withBlock k R =
 -- and appends its rows; it clears all set outputs and leaves no scan running
 unfoldable pub admitted : State → List ℕ → List ℕ → State
 admitted s R bytes =
-    record { bank = withBlock (s .bank) R; scan = atRest; rows = written (s .rows) (rowsHeld (s .bank)) bytes }
+    record { bank = withBlock (s .bank) R; scan = atRest; rows = written (s .rows) (room twoBytes (rowsHeld (s .bank))) bytes }
 
 unfoldable pub admit : State → List ℕ → List ℕ → After State
 admit s R bytes =
@@ -84,7 +85,7 @@ latch s ws =
 unfoldable pub nextRow : Bank → Scan → List ℕ → ℕ
 nextRow k s rows =
     let R = recordsOf k (s .block) in
-    getD rows (rowsBefore k (s .block) + rowPlace R (s .cell) (s .rail) (getD (s .words) (s .block) 0)) 0
+    rowValue twoBytes rows (rowsBefore k (s .block) + rowPlace R (s .cell) (s .rail) (getD (s .words) (s .block) 0))
 
 -- the outputs of block b
 unfoldable pub outputsOf : Scan → ℕ → List ℕ
@@ -104,7 +105,7 @@ unfoldable pub step : State → After State
 step s =
     cond (not (formed (s .bank) (s .scan))) (record { answer = refused 12; state = s })
     (cond (not (s .scan .running)) (record { answer = idle; state = s })
-    (cond (ltb (length (s .rows)) (rowsHeld (s .bank))) (record { answer = refused 11; state = s })
+    (cond (ltb (length (s .rows)) (room twoBytes (rowsHeld (s .bank)))) (record { answer = refused 11; state = s })
     (record {
       answer = went (s .scan .block) (s .scan .cell);
       state = record { bank = s .bank; scan = moved (s .bank) (s .scan) (nextRow (s .bank) (s .scan) (s .rows)); rows = s .rows };

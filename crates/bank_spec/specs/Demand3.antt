@@ -14,6 +14,7 @@ use Rattle.reduction_spec.specs.Columns.{width}
 use Rattle.reduction_spec.specs.Merge.{reduced}
 use Rattle.stored_spec.specs.StoredForm.{cutByte, railByte, cellAt}
 use Rattle.stored_spec.specs.Run.{AgreeOn}
+use Rattle.stored_spec.specs.RowBytes.{twoBytes, room}
 use Rattle.cutting_spec.specs.Compile.{compile, Totals}
 use Rattle.cutting_spec.specs.Compile as compiler
 use Rattle.bank_spec.specs.State.{State, fresh}
@@ -29,7 +30,7 @@ pub record CompiledBy (j : Job) (s : List ℕ) (B : Block) : Type 0 where
   pub totals : Totals
   pub accepted : compile nodes records rows j s .answer ≡ compiler.accepted totals
   pub recordsWritten : B .records ≡ take (4 * t j) (compile nodes records rows j s .records)
-  pub rowsWritten : B .rows ≡ take (totals .rows) (compile nodes records rows j s .rows)
+  pub rowsWritten : B .rows ≡ take (room twoBytes (totals .rows)) (compile nodes records rows j s .rows)
 
 -- output o is set, to the value v, which the sheet allows for the word w
 pub record SetAllowed (s : List ℕ) (w o v : ℕ) : Type 0 where

@@ -156,7 +156,7 @@ length-bytes l = length-tab (λ i. hexByte l (2 * i)) (length l / 2)
 
 -- an admission
 abbrev pub admission : List ℕ → List ℕ → List ℕ
-admission r q = 1 ∷ low (length r) ∷ high (length r) ∷ low (length q) ∷ high (length q) ∷ (r ++ q)
+admission r q = 1 ∷ low (length r) ∷ high (length r) ∷ low (length q) ∷ high (length q) ∷ 0 ∷ (r ++ q)
 
 pub space-found : (l : List ℕ) (n : ℕ) → n ≡ least (length l) (λ i. eqb (getD l i 0) 32) → n ≡ spaceIn l
 unfolding spaceIn
@@ -181,29 +181,32 @@ module _ (l q : List ℕ) (p : ℕ) (e : p ≡ spaceIn l) (rest : q ≡ drop (p 
   pub admit-good : (isBytes (take p l) && isBytes q) ≡ true → admitLine l ≡ call (admission (bytesOf (take p l)) (bytesOf q))
   admit-good h = admits ∙ line-yes (isBytes (take p l) && isBytes q) (admission (bytesOf (take p l)) (bytesOf q)) h
 
-pub length-admission : (r q : List ℕ) → length (admission r q) ≡ 5 + length r + length q
+pub length-admission : (r q : List ℕ) → length (admission r q) ≡ 6 + length r + length q
 length-admission r q = omega (arith, length-append r q)
 
-pub put-admission : (r q c₀ c₁ c₂ c₃ c₄ : List ℕ) (at m n : ℕ) → m ≡ length r / 2 → n ≡ length q / 2 → at + 5 + m + n ≤ length c₀
+pub put-admission : (r q c₀ c₁ c₂ c₃ c₄ : List ℕ) (at m n : ℕ) → m ≡ length r / 2 → n ≡ length q / 2 → at + 6 + m + n ≤ length c₀
     → c₁ ≡ written (set c₀ at 1) (at + 1) (m % 256 ∷ m / 256 ∷ []) → c₂ ≡ written c₁ (at + 3) (n % 256 ∷ n / 256 ∷ [])
-    → c₃ ≡ putsAt (at + 5) m (λ i. hexByte r (2 * i)) c₂ → c₄ ≡ putsAt (at + 5 + m) n (λ i. hexByte q (2 * i)) c₃
+    → c₃ ≡ putsAt (at + 6) m (λ i. hexByte r (2 * i)) (set c₂ (at + 5) 0) → c₄ ≡ putsAt (at + 6 + m) n (λ i. hexByte q (2 * i)) c₃
     → c₄ ≡ written c₀ at (admission (bytesOf r) (bytesOf q))
 unfolding bytesOf
 put-admission r q c₀ c₁ c₂ c₃ c₄ at m n em en h w₁ w₂ w₃ w₄ =
     let f : ℕ → ℕ = λ i. hexByte r (2 * i) in
     let g : ℕ → ℕ = λ i. hexByte q (2 * i) in
-    let head : List ℕ = 1 ∷ low m ∷ high m ∷ low n ∷ high n ∷ [] in
+    let numbers : List ℕ = 1 ∷ low m ∷ high m ∷ low n ∷ high n ∷ [] in
+    let head : List ℕ = 1 ∷ low m ∷ high m ∷ low n ∷ high n ∷ 0 ∷ [] in
     let lf = length-tab f m in
     let s₁ = written-on c₀ (set c₀ at 1) c₁ (1 ∷ []) (low m ∷ high m ∷ []) at (at + 1) refl (omega arith) (set-written c₀ at 1 (omega arith)) w₁ in
     let s₂ = written-on c₀ c₁ c₂ (1 ∷ low m ∷ high m ∷ []) (low n ∷ high n ∷ []) at (at + 3) refl (omega arith) s₁ w₂ in
-    let long₂ : length c₂ ≡ length c₀ = ap length s₂ ∙ length-written c₀ at head (omega arith) in
-    let s₃ = written-on c₀ c₂ c₃ head (tab m f) at (at + 5) refl (omega arith) s₂ (w₃ ∙ puts-written f (at + 5) m c₂ (omega arith)) in
+    let long₂ : length c₂ ≡ length c₀ = ap length s₂ ∙ length-written c₀ at numbers (omega arith) in
+    let s₀ = written-on c₀ c₂ (set c₂ (at + 5) 0) numbers (0 ∷ []) at (at + 5) refl (omega arith) s₂ (set-written c₂ (at + 5) 0 (omega arith)) in
+    let long₀ : length (set c₂ (at + 5) 0) ≡ length c₀ = length-set c₂ (at + 5) 0 ∙ long₂ in
+    let s₃ = written-on c₀ (set c₂ (at + 5) 0) c₃ head (tab m f) at (at + 6) refl (omega arith) s₀ (w₃ ∙ puts-written f (at + 6) m (set c₂ (at + 5) 0) (omega arith)) in
     let long₃ : length c₃ ≡ length c₀ = ap length s₃ ∙ length-written c₀ at (head ++ tab m f) (omega arith) in
     let s₄ =
-    written-on c₀ c₃ c₄ (head ++ tab m f) (tab n g) at (at + 5 + m) (omega arith) (omega arith) s₃ (w₄ ∙ puts-written g (at + 5 + m) n c₃ (omega arith)) in
+    written-on c₀ c₃ c₄ (head ++ tab m f) (tab n g) at (at + 6 + m) (omega arith) (omega arith) s₃ (w₄ ∙ puts-written g (at + 6 + m) n c₃ (omega arith)) in
     s₄
-    ∙ ap₂ (λ (x y : ℕ). written c₀ at (1 ∷ low x ∷ high x ∷ low y ∷ high y ∷ (tab m f ++ tab n g))) (em ∙ sym (length-bytes r)) (en ∙ sym (length-bytes q))
-    ∙ ap₂ (λ (x y : ℕ). written c₀ at (1 ∷ low (length (bytesOf r)) ∷ high (length (bytesOf r)) ∷ low (length (bytesOf q)) ∷ high (length (bytesOf q)) ∷ (tab x f ++ tab y g))) em en
+    ∙ ap₂ (λ (x y : ℕ). written c₀ at (1 ∷ low x ∷ high x ∷ low y ∷ high y ∷ 0 ∷ (tab m f ++ tab n g))) (em ∙ sym (length-bytes r)) (en ∙ sym (length-bytes q))
+    ∙ ap₂ (λ (x y : ℕ). written c₀ at (1 ∷ low (length (bytesOf r)) ∷ high (length (bytesOf r)) ∷ low (length (bytesOf q)) ∷ high (length (bytesOf q)) ∷ 0 ∷ (tab x f ++ tab y g))) em en
 
 -- the cases of a line
 abbrev pub passed : List ℕ → Bool
@@ -309,10 +312,10 @@ line-read l x good n old new at e h =
 
 -- the row memory that a line says
 abbrev pub saysMemory : List ℕ → Bool
-saysMemory l = begins memoryWord l && isNumber (drop 7 l) && leb (decimal (drop 7 l)) 32768
+saysMemory l = begins memoryWord l && isNumber (drop 7 l) && leb (decimal (drop 7 l)) 65536
 
-pub memory-bad : (l : List ℕ) → saysMemory l ≡ false → 32769 ≡ cond (saysMemory l) (decimal (drop 7 l)) 32769
-memory-bad l e = sym (cond-no (saysMemory l) (decimal (drop 7 l)) 32769 e)
+pub memory-bad : (l : List ℕ) → saysMemory l ≡ false → 65537 ≡ cond (saysMemory l) (decimal (drop 7 l)) 65537
+memory-bad l e = sym (cond-no (saysMemory l) (decimal (drop 7 l)) 65537 e)
 
-pub memory-good : (l : List ℕ) (n : ℕ) → n ≡ decimal (drop 7 l) → saysMemory l ≡ true → n ≡ cond (saysMemory l) (decimal (drop 7 l)) 32769
-memory-good l n d e = d ∙ sym (cond-yes (saysMemory l) (decimal (drop 7 l)) 32769 e)
+pub memory-good : (l : List ℕ) (n : ℕ) → n ≡ decimal (drop 7 l) → saysMemory l ≡ true → n ≡ cond (saysMemory l) (decimal (drop 7 l)) 65537
+memory-good l n d e = d ∙ sym (cond-yes (saysMemory l) (decimal (drop 7 l)) 65537 e)

@@ -76,9 +76,9 @@ unfolding lineEnd
 line-end-le l = least-le (λ i. eqb (getD l i 0) 10) (length l)
 
 abbrev memorySaid : List ℕ → ℕ
-memorySaid l = cond (saysMemory l) (decimal (drop 7 l)) 32769
+memorySaid l = cond (saysMemory l) (decimal (drop 7 l)) 65537
 
-pub memory-read : (l : List ℕ) (end n : ℕ) → end ≡ lineEnd l → n ≡ cond (saysMemory (take end l)) (decimal (drop 7 (take end l))) 32769 → n ≡ memoryIn l
+pub memory-read : (l : List ℕ) (end n : ℕ) → end ≡ lineEnd l → n ≡ cond (saysMemory (take end l)) (decimal (drop 7 (take end l))) 65537 → n ≡ memoryIn l
 unfolding memoryIn
 memory-read l end n e h = h ∙ ap (λ (k : ℕ). memorySaid (take k l)) e
 

@@ -4,7 +4,7 @@
 --   latch W0 W1 W2 W3 W4 W5 W6 W7 latches eight words, each four digits in base 16
 --   step                          steps
 -- Words are parted by one space. Empty lines and lines that begin with # are passed over. The lines stand after one that says how many bytes of
--- row memory are lent: memory N, at most 32,768.
+-- row memory are lent: memory N, at most 65,536.
 -- Assumes nothing.
 use Prim.Native.Nat.{ℕ, zero, suc, _+_, _*_, _/_, _%_}
 use mathlib.Core.Bool.{Bool, true, false, cond, _&&_, _||_}
@@ -49,13 +49,14 @@ latchLine l =
 unfoldable pub spaceIn : List ℕ → ℕ
 spaceIn l = least (length l) (λ i. eqb (getD l i 0) 32)
 
+-- Q's number has three bytes; texts of bytes are so short that the third is 0
 unfoldable pub admitLine : List ℕ → Line
 admitLine l =
     let p = spaceIn l in
     let R = bytesOf (take p l) in
     let Q = bytesOf (drop (p + 1) l) in
     lineOf (isBytes (take p l) && isBytes (drop (p + 1) l))
-    (1 ∷ low (length R) ∷ high (length R) ∷ low (length Q) ∷ high (length Q) ∷ (R ++ Q))
+    (1 ∷ low (length R) ∷ high (length R) ∷ low (length Q) ∷ high (length Q) ∷ 0 ∷ (R ++ Q))
 
 -- "step", "bank ", "latch", "admit ", "memory "
 abbrev pub stepWord : List ℕ
@@ -104,12 +105,12 @@ linesTo (suc n) k l =
 unfoldable pub linesIn : ℕ → List ℕ → Text
 linesIn k l = linesTo (length l) k l
 
--- the bytes of row memory that the first line says; 32,769 where it says none
+-- the bytes of row memory that the first line says; 65,537 where it says none
 unfoldable pub memoryIn : List ℕ → ℕ
 memoryIn l =
     let first = take (lineEnd l) l in
     let n = drop 7 first in
-    cond (begins memoryWord first && isNumber n && leb (decimal n) 32768) (decimal n) 32769
+    cond (begins memoryWord first && isNumber n && leb (decimal n) 65536) (decimal n) 65537
 
 -- what reading a text gives: 11 where the memory for the calls is shorter than the text, and then nothing changes; else the calls from its front
 -- on, their number of bytes, and the number of the line that can't be read

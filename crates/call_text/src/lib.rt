@@ -33,7 +33,7 @@ pub fn line_end(text: &[u8]) -> usize
     byte_in(text, 10)
 }
 
-// The bytes of row memory that the first line says; 32,769 where it says none.
+// The bytes of row memory that the first line says; 65,537 where it says none.
 pub fn memory_said(text: &[u8]) -> usize
     ensures { λ r. ⌜ r ≡ memoryIn (now (text .entry)) ⌝ }
 {

@@ -26,22 +26,22 @@ pub struct LineRead {
     pub size: usize,
 }
 
-// The first line, which says the bytes of row memory; 32,769 where it says none.
+// The first line, which says the bytes of row memory; 65,537 where it says none.
 pub fn memory_line(line: &[u8]) -> usize
     ensures { λ r.
-        ⌜ r ≡ cond (begins memoryWord (now (line .entry)) && isNumber (drop 7 (now (line .entry))) && leb (decimal (drop 7 (now (line .entry)))) 32768) (decimal (drop 7 (now (line .entry)))) 32769 ⌝ }
+        ⌜ r ≡ cond (begins memoryWord (now (line .entry)) && isNumber (drop 7 (now (line .entry))) && leb (decimal (drop 7 (now (line .entry)))) 65536) (decimal (drop 7 (now (line .entry)))) 65537 ⌝ }
 {
     if !begins(b"memory ", line) {
-        return 32769;
+        return 65537;
     }
     if !is_number(&line[7..]) {
-        return 32769;
+        return 65537;
     }
     let n = number(&line[7..]);
-    if n <= 32768 {
+    if n <= 65536 {
         return n;
     }
-    32769
+    65537
 }
 
 // A number in two bytes, the low byte first.
@@ -156,13 +156,13 @@ fn latch_line(rest: &[u8], at: usize, code: &mut [u8]) -> LineRead
 
 // The call of an admission, its texts of bytes given.
 fn put_admission(records: &[u8], rows: &[u8], at: usize, code: &mut [u8]) -> usize
-    requires { ⌜ (isBytes (now records) ≡ true) × (isBytes (now rows) ≡ true) × (at + length (now records) + length (now rows) + 3 ≤ length (now code)) ⌝ }
-    ensures { λ r. ⌜ r ≡ 5 + length (bytesOf (now (records .entry))) + length (bytesOf (now (rows .entry))) ⌝ }
+    requires { ⌜ (isBytes (now records) ≡ true) × (isBytes (now rows) ≡ true) × (at + length (now records) + length (now rows) + 4 ≤ length (now code)) ⌝ }
+    ensures { λ r. ⌜ r ≡ 6 + length (bytesOf (now (records .entry))) + length (bytesOf (now (rows .entry))) ⌝ }
     ensures { λ _.
         ⌜ now (code .exit)
         ≡ written (now (code .entry)) at
         (1 ∷ low (length (bytesOf (now (records .entry)))) ∷ high (length (bytesOf (now (records .entry))))
-        ∷ low (length (bytesOf (now (rows .entry)))) ∷ high (length (bytesOf (now (rows .entry))))
+        ∷ low (length (bytesOf (now (rows .entry)))) ∷ high (length (bytesOf (now (rows .entry)))) ∷ 0
         ∷ (bytesOf (now (records .entry)) ++ bytesOf (now (rows .entry)))) ⌝ }
 {
     let r = records.len() / 2;
@@ -170,9 +170,10 @@ fn put_admission(records: &[u8], rows: &[u8], at: usize, code: &mut [u8]) -> usi
     code[at] = 1;
     put_pair(r, at + 1, code);
     put_pair(q, at + 3, code);
-    put_bytes(records, at + 5, code);
-    put_bytes(rows, at + 5 + r, code);
-    5 + r + q
+    code[at + 5] = 0;
+    put_bytes(records, at + 6, code);
+    put_bytes(rows, at + 6 + r, code);
+    6 + r + q
 }
 
 fn admit_line(rest: &[u8], at: usize, code: &mut [u8]) -> LineRead

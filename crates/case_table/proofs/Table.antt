@@ -24,6 +24,7 @@ case-table =
       H-odd = refl;
       I = refl;
       J-rows = refl;
+      J-rows-wide = refl;
       J-records = refl;
       K = refl;
       K-kept = refl;
@@ -33,4 +34,9 @@ case-table =
       L-book = refl;
       S = refl;
       S-ordinary = refl;
+      W-answer = refl;
+      W-rows = refl;
+      W-listing = refl;
+      W-16 = refl;
+      W-17 = refl;
     }

@@ -1,10 +1,10 @@
--- What the case table says: the cascades of A, B, C, F and S.
+-- What the case table says: the cascades of A, B, C, F, S and W.
 -- Assumes nothing.
 use Prim.Native.Nat.{ℕ}
 use mathlib.Core.List.{List, [], _∷_}
 use Rattle.reduction_spec.specs.declared.Node.{Node}
-use Rattle.cutting_spec.specs.Compile.{Compiled, refused, accepted}
-use Rattle.cutting_spec.specs.Example.{recordsA, rowsA}
+use Rattle.cutting_spec.specs.Compile.{Answer, Compiled, refused, accepted}
+use Rattle.cutting_spec.specs.Example.{recordsA, rowBytesA}
 use Rattle.case_table.specs.Lent.{node, oldNodes, oldBytes}
 
 -- T's 15 nodes, the same for A, B and C
@@ -37,7 +37,7 @@ resultA =
       answer = accepted record { nodes = 15; cells = 2; rows = 16; bits = 32; widths = widthsT };
       nodes = nodesT;
       records = recordsA;
-      rows = rowsA;
+      rows = rowBytesA;
     }
 
 -- the listing of A, line by line
@@ -60,7 +60,7 @@ resultB =
       answer = accepted record { nodes = 15; cells = 2; rows = 16; bits = 32; widths = widthsT };
       nodes = nodesT;
       records = 0 ∷ 0 ∷ 0 ∷ 0 ∷ 1 ∷ 0 ∷ 0 ∷ 0 ∷ 2 ∷ 0 ∷ 0 ∷ 0 ∷ 128 ∷ 1 ∷ 2 ∷ 0 ∷ 3 ∷ 0 ∷ 0 ∷ 0 ∷ 129 ∷ 1 ∷ 0 ∷ 0 ∷ [];
-      rows = 0 ∷ 1 ∷ 6 ∷ 6 ∷ 0 ∷ 5 ∷ 6 ∷ 6 ∷ 1 ∷ 1 ∷ 0 ∷ 0 ∷ 0 ∷ 1 ∷ 0 ∷ 0 ∷ [];
+      rows = 0 ∷ 0 ∷ 1 ∷ 0 ∷ 6 ∷ 0 ∷ 6 ∷ 0 ∷ 0 ∷ 0 ∷ 5 ∷ 0 ∷ 6 ∷ 0 ∷ 6 ∷ 0 ∷ 1 ∷ 0 ∷ 1 ∷ 0 ∷ 0 ∷ 0 ∷ 0 ∷ 0 ∷ 0 ∷ 0 ∷ 1 ∷ 0 ∷ 0 ∷ 0 ∷ 0 ∷ 0 ∷ [];
     }
 
 -- C: one cell, 16 rows
@@ -70,7 +70,7 @@ resultC =
       answer = accepted record { nodes = 15; cells = 1; rows = 16; bits = 32; widths = widthsT };
       nodes = nodesT;
       records = 0 ∷ 0 ∷ 0 ∷ 0 ∷ 1 ∷ 0 ∷ 0 ∷ 0 ∷ 2 ∷ 0 ∷ 0 ∷ 0 ∷ 128 ∷ 0 ∷ 0 ∷ 0 ∷ 3 ∷ 0 ∷ 0 ∷ 0 ∷ 129 ∷ 1 ∷ 0 ∷ 0 ∷ [];
-      rows = 1 ∷ 1 ∷ 0 ∷ 0 ∷ 2 ∷ 3 ∷ 2 ∷ 3 ∷ 1 ∷ 1 ∷ 2 ∷ 2 ∷ 2 ∷ 3 ∷ 2 ∷ 3 ∷ [];
+      rows = 1 ∷ 0 ∷ 1 ∷ 0 ∷ 0 ∷ 0 ∷ 0 ∷ 0 ∷ 2 ∷ 0 ∷ 3 ∷ 0 ∷ 2 ∷ 0 ∷ 3 ∷ 0 ∷ 1 ∷ 0 ∷ 1 ∷ 0 ∷ 2 ∷ 0 ∷ 2 ∷ 0 ∷ 2 ∷ 0 ∷ 3 ∷ 0 ∷ 2 ∷ 0 ∷ 3 ∷ 0 ∷ [];
     }
 
 -- F: widths 1 and 1, rows 0 0; the memory past the written part, one node, one record byte and one row byte, is kept
@@ -80,7 +80,7 @@ resultF =
       answer = accepted record { nodes = 2; cells = 1; rows = 2; bits = 2; widths = 1 ∷ 1 ∷ [] };
       nodes = node 2 3 3 ∷ node 1 1 1 ∷ node 7 8 9 ∷ [];
       records = 0 ∷ 0 ∷ 0 ∷ 0 ∷ 128 ∷ 1 ∷ 0 ∷ 0 ∷ 77 ∷ [];
-      rows = 0 ∷ 0 ∷ 77 ∷ [];
+      rows = 0 ∷ 0 ∷ 0 ∷ 0 ∷ 77 ∷ [];
     }
 
 -- S: with the lid shut (places 00 and 01) free is merged with 1, with the lid open (10 and 11) the valve is 0: one cell, rows 1 1 0 0
@@ -90,8 +90,24 @@ resultS =
       answer = accepted record { nodes = 5; cells = 1; rows = 4; bits = 4; widths = 1 ∷ 2 ∷ 2 ∷ [] };
       nodes = node 3 3 4 ∷ node 2 5 5 ∷ node 2 6 6 ∷ node 1 0 1 ∷ node 1 1 0 ∷ [];
       records = 0 ∷ 0 ∷ 0 ∷ 0 ∷ 1 ∷ 0 ∷ 0 ∷ 0 ∷ 128 ∷ 1 ∷ 0 ∷ 0 ∷ [];
-      rows = 1 ∷ 1 ∷ 0 ∷ 0 ∷ [];
+      rows = 1 ∷ 0 ∷ 1 ∷ 0 ∷ 0 ∷ 0 ∷ 0 ∷ 0 ∷ [];
     }
+
+-- W: the first cell has nine outputs, so that rows are over 255. Its rows are 0 0 1 1 258 258 259 259, those of the second 0 0 1 1 0 1 1 0
+abbrev pub widthsW : List ℕ
+widthsW = 1 ∷ 2 ∷ 4 ∷ 4 ∷ 4 ∷ 4 ∷ 4 ∷ 4 ∷ 4 ∷ 4 ∷ 4 ∷ 2 ∷ []
+
+abbrev pub answerW : Answer
+answerW = accepted record { nodes = 41; cells = 2; rows = 16; bits = 80; widths = widthsW }
+
+abbrev pub rowBytesW : List ℕ
+rowBytesW =
+    0 ∷ 0 ∷ 0 ∷ 0 ∷ 1 ∷ 0 ∷ 1 ∷ 0 ∷ 2 ∷ 1 ∷ 2 ∷ 1 ∷ 3 ∷ 1 ∷ 3 ∷ 1
+    ∷ 0 ∷ 0 ∷ 0 ∷ 0 ∷ 1 ∷ 0 ∷ 1 ∷ 0 ∷ 0 ∷ 0 ∷ 1 ∷ 0 ∷ 1 ∷ 0 ∷ 0 ∷ 0 ∷ []
+
+-- the two lines of its cells
+abbrev pub cellsW : List (List ℕ)
+cellsW = (12 ∷ 2 ∷ 0 ∷ 0 ∷ 1 ∷ 1 ∷ 258 ∷ 258 ∷ 259 ∷ 259 ∷ []) ∷ (2 ∷ 0 ∷ 0 ∷ 0 ∷ 1 ∷ 1 ∷ 0 ∷ 1 ∷ 1 ∷ 0 ∷ []) ∷ []
 
 -- refused with the number, all lent memory as it was
 abbrev pub refusedWith : ℕ → ℕ → ℕ → ℕ → Compiled

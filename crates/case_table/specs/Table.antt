@@ -1,9 +1,9 @@
--- The case table of document 01, A to L, as one statement; E as document 02, §1, has it, and its example of §3, S.
+-- The case table of document 01, A to L, as one statement; E as document 02, §1, has it, and its examples of §3 and §6, S and W.
 -- Assumes nothing.
 use mathlib.Core.Path.{_≡_}
 use mathlib.Core.List.{List, [], _∷_, _++_}
 use Prim.Native.Nat.{ℕ}
-use lib.ListN.{replicate}
+use lib.ListN.{replicate, drop}
 use Rattle.sheet_spec.specs.Table.{table}
 use Rattle.cutting_spec.specs.Compile.{made}
 use Rattle.cutting_spec.specs.Listing.{listing}
@@ -12,13 +12,14 @@ use Rattle.bank_spec.specs.Calls.{Answer, accepted, refused}
 use Rattle.bank_spec.specs.Book.{newBook}
 use Rattle.bank_spec.specs.CallLists.{Call, admission, Entry, trace, bookTrace, stateAfter}
 use Rattle.sheet_spec.specs.Example.{T, fullT, jobT, jobAbove, jobF, clashing, jobS, washing, unstopped}
-use Rattle.cutting_spec.specs.Example.{recordsA, rowsA}
+use Rattle.cutting_spec.specs.Example.{recordsA, rowBytesA}
 use Rattle.case_table.specs.Lent.{oldBytes, lending}
-use Rattle.case_table.specs.Results.{resultA, listingA, resultB, resultC, resultF, resultS, refusedWith}
+use Rattle.case_table.specs.Wide.{jobW, courses}
+use Rattle.case_table.specs.Results.{resultA, listingA, resultB, resultC, resultF, resultS, answerW, rowBytesW, cellsW, refusedWith}
 
 -- A's block admitted twice, on row memory for both
 abbrev pub twice : List Call
-twice = admission recordsA rowsA ∷ admission recordsA rowsA ∷ []
+twice = admission recordsA rowBytesA ∷ admission recordsA rowBytesA ∷ []
 
 -- an answer with so many blocks held, nothing set
 abbrev pub entry : Answer → ℕ → Entry
@@ -26,38 +27,46 @@ entry a k = record { answer = a; outputs = replicate k (replicate 8 2) }
 
 pub record CaseTable : Type 0 where
   -- T, K 3, L 2: 15 nodes, the listing and the stored bytes
-  pub A : lending 15 24 16 (jobT 3 2) T ≡ resultA
+  pub A : lending 15 24 32 (jobT 3 2) T ≡ resultA
   pub A-listing : listing (jobT 3 2) (made (jobT 3 2) (table (jobT 3 2) T)) ≡ listingA
   -- T, K 3, L 3: cut at 2
-  pub B : lending 15 24 16 (jobT 3 3) T ≡ resultB
+  pub B : lending 15 24 32 (jobT 3 3) T ≡ resultB
   -- T, K 4, L 2: one cell, 16 rows
-  pub C : lending 15 24 16 (jobT 4 2) T ≡ resultC
+  pub C : lending 15 24 32 (jobT 4 2) T ≡ resultC
   -- T, K 2, L 2: 8
-  pub D : lending 15 24 16 (jobT 2 2) T ≡ refusedWith 8 15 24 16
+  pub D : lending 15 24 32 (jobT 2 2) T ≡ refusedWith 8 15 24 32
   -- T as sixteen full-mask records: all that A gives (document 02, §1)
-  pub E : lending 15 24 16 (jobT 3 2) fullT ≡ resultA
+  pub E : lending 15 24 32 (jobT 3 2) fullT ≡ resultA
   -- the same with y1 above x3, on which it depends: 6
-  pub E-above : lending 15 24 16 jobAbove fullT ≡ refusedWith 6 15 24 16
+  pub E-above : lending 15 24 32 jobAbove fullT ≡ refusedWith 6 15 24 32
   -- empty sheet: widths 1 and 1, rows 0 0
-  pub F : lending 3 9 3 jobF [] ≡ resultF
+  pub F : lending 3 9 5 jobF [] ≡ resultF
   -- F's job, one output forced both ways by records that match every word: 5
-  pub G : lending 3 9 3 jobF clashing ≡ refusedWith 5 3 9 3
+  pub G : lending 3 9 5 jobF clashing ≡ refusedWith 5 3 9 5
   -- 2,056 bytes: 3; 7 bytes: 3
-  pub H-long : lending 3 9 3 jobF (replicate 2056 0) ≡ refusedWith 3 3 9 3
-  pub H-odd : lending 3 9 3 jobF (replicate 7 0) ≡ refusedWith 3 3 9 3
+  pub H-long : lending 3 9 5 jobF (replicate 2056 0) ≡ refusedWith 3 3 9 5
+  pub H-odd : lending 3 9 5 jobF (replicate 7 0) ≡ refusedWith 3 3 9 5
   -- A with 14 nodes lent: 9
-  pub I : lending 14 24 16 (jobT 3 2) T ≡ refusedWith 9 14 24 16
-  -- A with 15 row bytes: 11; with 23 record bytes: 10
+  pub I : lending 14 24 32 (jobT 3 2) T ≡ refusedWith 9 14 24 32
+  -- A with 15 row bytes: 11, and so with 31, for a row has two (document 02, §6); with 23 record bytes: 10
   pub J-rows : lending 15 24 15 (jobT 3 2) T ≡ refusedWith 11 15 24 15
-  pub J-records : lending 15 23 16 (jobT 3 2) T ≡ refusedWith 10 15 23 16
+  pub J-rows-wide : lending 15 24 31 (jobT 3 2) T ≡ refusedWith 11 15 24 31
+  pub J-records : lending 15 23 32 (jobT 3 2) T ≡ refusedWith 10 15 23 32
   -- S 3, A's block twice: admitted, then 14, and what is lent and held is then as it was
-  pub K : trace (fresh 3 (oldBytes 32)) twice ≡ entry accepted 1 ∷ entry (refused 14) 1 ∷ []
-  pub K-kept : stateAfter (fresh 3 (oldBytes 32)) twice ≡ stateAfter (fresh 3 (oldBytes 32)) (admission recordsA rowsA ∷ [])
-  pub K-book : bookTrace 3 32 newBook twice ≡ entry accepted 1 ∷ entry (refused 14) 1 ∷ []
+  pub K : trace (fresh 3 (oldBytes 64)) twice ≡ entry accepted 1 ∷ entry (refused 14) 1 ∷ []
+  pub K-kept : stateAfter (fresh 3 (oldBytes 64)) twice ≡ stateAfter (fresh 3 (oldBytes 64)) (admission recordsA rowBytesA ∷ [])
+  pub K-book : bookTrace 3 64 newBook twice ≡ entry accepted 1 ∷ entry (refused 14) 1 ∷ []
   -- S 4, the same: both
-  pub L : trace (fresh 4 (oldBytes 32)) twice ≡ entry accepted 1 ∷ entry accepted 2 ∷ []
-  pub L-rows : stateAfter (fresh 4 (oldBytes 32)) twice .rows ≡ rowsA ++ rowsA
-  pub L-book : bookTrace 4 32 newBook twice ≡ entry accepted 1 ∷ entry accepted 2 ∷ []
+  pub L : trace (fresh 4 (oldBytes 64)) twice ≡ entry accepted 1 ∷ entry accepted 2 ∷ []
+  pub L-rows : stateAfter (fresh 4 (oldBytes 64)) twice .rows ≡ rowBytesA ++ rowBytesA
+  pub L-book : bookTrace 4 64 newBook twice ≡ entry accepted 1 ∷ entry accepted 2 ∷ []
   -- a wash line opens the valve, a stop line closes it while the lid is open; with an ordinary line for the lid: 5
-  pub S : lending 5 12 4 jobS washing ≡ resultS
-  pub S-ordinary : lending 5 12 4 jobS unstopped ≡ refusedWith 5 5 12 4
+  pub S : lending 5 12 8 jobS washing ≡ resultS
+  pub S-ordinary : lending 5 12 8 jobS unstopped ≡ refusedWith 5 5 12 8
+  -- a cell of nine outputs (document 02, §6): rows are pairs of bytes, low byte first, and the listing has their values
+  pub W-answer : lending 41 48 32 (jobW 9) courses .answer ≡ answerW
+  pub W-rows : lending 41 48 32 (jobW 9) courses .rows ≡ rowBytesW
+  pub W-listing : drop 12 (listing (jobW 9) (made (jobW 9) (table (jobW 9) courses))) ≡ cellsW
+  -- L may be 16 and not 17
+  pub W-16 : lending 41 48 32 (jobW 16) courses .rows ≡ rowBytesW
+  pub W-17 : lending 41 48 32 (jobW 17) courses ≡ refusedWith 1 41 48 32

@@ -11,7 +11,7 @@ use Rattle.sheet_spec.specs.Opened.{sheetOpened}
 use Rattle.sheet_spec.specs.Example.{T, jobT}
 use Rattle.reduction_spec.specs.Opened.{reductionOpened}
 use Rattle.cutting_spec.specs.Opened.{cuttingOpened}
-use Rattle.cutting_spec.specs.Example.{recordsA, rowsA}
+use Rattle.cutting_spec.specs.Example.{recordsA, rowBytesA}
 use Rattle.cutting.specs.Outcome.{outcome}
 use Rattle.bank_spec.specs.Opened.{bankOpened}
 use Rattle.bank_spec.specs.State.{fresh}
@@ -24,18 +24,18 @@ use Rattle.claims.proofs.WrittenBlocks.{outcome-compiled}
 -- the compiler over words writes it, and so it is a compiled block, with whatever word, rails and outputs it stands in a book
 module _ (w r : ℕ) (outputs : List ℕ) where
   abbrev blockA : Block
-  blockA = record { records = recordsA; rows = rowsA; word = w; rail = r; outputs = outputs }
+  blockA = record { records = recordsA; rows = rowBytesA; word = w; rail = r; outputs = outputs }
 
-  pub A-compiled : CompiledBy (jobT 3 2) T (record { records = recordsA; rows = rowsA; word = w; rail = r; outputs = outputs })
+  pub A-compiled : CompiledBy (jobT 3 2) T (record { records = recordsA; rows = rowBytesA; word = w; rail = r; outputs = outputs })
   unfolding sheetOpened reductionOpened cuttingOpened outcome
-  A-compiled = outcome-compiled (replicate 45 0) (replicate 24 0) (replicate 16 0) (jobT 3 2) T refl blockA refl refl
+  A-compiled = outcome-compiled (replicate 45 0) (replicate 24 0) (replicate 32 0) (jobT 3 2) T refl blockA refl refl
 
 -- the bank has it, and x1x2x3x4 = 0110 is latched
 abbrev admitA : List Call
-admitA = admission recordsA rowsA ∷ []
+admitA = admission recordsA rowBytesA ∷ []
 
 abbrev memory : List ℕ
-memory = replicate 16 9
+memory = replicate 32 9
 
 -- after the first cell is read the scan still runs, and all of the claim holds
 A-scan : ScanClaim 4 memory admitA (6 ∷ []) (stepping ∷ [])

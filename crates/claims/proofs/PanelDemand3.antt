@@ -12,6 +12,7 @@ use Rattle.laws.specs.Lists.{puts}
 use Rattle.laws.proofs.Cases.{by-test, cond-both}
 use Rattle.laws.proofs.Lists.{length-tab}
 use Rattle.laws.proofs.Puts.{length-puts, length-putsAt}
+use Rattle.stored_spec.specs.RowBytes.{twoBytes, room}
 use Rattle.bank_spec.specs.declared.Bank.{Bank}
 use Rattle.bank_spec.specs.declared.Scan.{Scan}
 use Rattle.bank_spec.specs.State.{State, formed, rowsHeld, emptyBank, atRest, fresh, limitRefused, stateOf}
@@ -107,7 +108,7 @@ module _ (b : Lent) (w : Whole b) where
   step-holds =
       cond-both Steps (not (formed (bankIn (b .bank)) (scanIn (b .scan)))) (λ z. refl)
       (cond-both Steps (not (scanIn (b .scan) .running)) (λ z. refl)
-      (cond-both Steps (ltb (length (b .rows)) (rowsHeld (bankIn (b .bank)))) (λ z. refl)
+      (cond-both Steps (ltb (length (b .rows)) (room twoBytes (rowsHeld (bankIn (b .bank))))) (λ z. refl)
       (λ z. ap (λ (s : Scan). stateOf (bankIn (b .bank)) s (b .rows)) (scan-stored _ (z .words) (z .outputs)))))
 
   -- the bytes that a call leaves hold the state that the definition leaves, for any bytes

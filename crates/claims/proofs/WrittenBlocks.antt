@@ -12,6 +12,7 @@ use Rattle.sheet_spec.specs.Job.{Job, t}
 use Rattle.sheet_spec.specs.Table.{table}
 use Rattle.reduction_spec.specs.declared.Node.{Node}
 use Rattle.reduction_spec.specs.Diagram.{nodeWords}
+use Rattle.stored_spec.specs.RowBytes.{twoBytes, room}
 use Rattle.cutting_spec.specs.Compile.{accepted, Totals, CompiledAs, made, totals, refusal, acceptance, compileAs, compile, compileWords}
 use Rattle.cutting_spec.proofs.Promises.{Lowest, refuses, accepts, decided}
 use Rattle.bank_spec.specs.Book.{Block}
@@ -47,18 +48,18 @@ module _ {A : Type 0} (held : List Node → List A) (nodes : List A) (records ro
 
   written-compiled : answered (compileAs held nodes records rows j s .answer) .refusal ≡ 0 → (B : Block)
       → B .records ≡ take (4 * t j) (compileAs held nodes records rows j s .records)
-      → B .rows ≡ take (answered (compileAs held nodes records rows j s .answer) .rows) (compileAs held nodes records rows j s .rows)
+      → B .rows ≡ take (room twoBytes (answered (compileAs held nodes records rows j s .answer) .rows)) (compileAs held nodes records rows j s .rows)
       → CompiledBy j s B
   written-compiled e B p q =
       let (T, is, same) = zero-accepted e in
       as-compiled held nodes records rows j s T is B p
-      (q ∙ ap (λ (n : ℕ). take n (compileAs held nodes records rows j s .rows)) (sym same))
+      (q ∙ ap (λ (n : ℕ). take (room twoBytes n) (compileAs held nodes records rows j s .rows)) (sym same))
 
 -- over a node table of words
 module _ (nodes records rows : List ℕ) (j : Job) (s : List ℕ) where
   pub outcome-compiled : outcome nodes records rows j s .answer .refusal ≡ 0 → (B : Block)
       → B .records ≡ take (4 * t j) (outcome nodes records rows j s .records)
-      → B .rows ≡ take (outcome nodes records rows j s .answer .rows) (outcome nodes records rows j s .rows)
+      → B .rows ≡ take (room twoBytes (outcome nodes records rows j s .answer .rows)) (outcome nodes records rows j s .rows)
       → CompiledBy j s B
   unfolding outcome compileWords
   outcome-compiled = written-compiled nodeWords nodes records rows j s
@@ -66,7 +67,7 @@ module _ (nodes records rows : List ℕ) (j : Job) (s : List ℕ) where
   -- as C gets it, with the widths beside
   pub bytes-compiled : (widths : List ℕ) → compileBytes nodes records rows widths j s .answer .refusal ≡ 0 → (B : Block)
       → B .records ≡ take (4 * t j) (compileBytes nodes records rows widths j s .records)
-      → B .rows ≡ take (compileBytes nodes records rows widths j s .answer .rows) (compileBytes nodes records rows widths j s .rows)
+      → B .rows ≡ take (room twoBytes (compileBytes nodes records rows widths j s .answer .rows)) (compileBytes nodes records rows widths j s .rows)
       → CompiledBy j s B
   unfolding compileBytes totalsOf
   bytes-compiled widths = outcome-compiled
@@ -75,7 +76,7 @@ module _ (nodes records rows : List ℕ) (j : Job) (s : List ℕ) where
 pub nodes-compiled : (nodes : List Node) (records rows : List ℕ) (j : Job) (s : List ℕ)
     → nodeOutcome nodes records rows j s .answer .refusal ≡ 0 → (B : Block)
     → B .records ≡ take (4 * t j) (nodeOutcome nodes records rows j s .records)
-    → B .rows ≡ take (nodeOutcome nodes records rows j s .answer .rows) (nodeOutcome nodes records rows j s .rows)
+    → B .rows ≡ take (room twoBytes (nodeOutcome nodes records rows j s .answer .rows)) (nodeOutcome nodes records rows j s .rows)
     → CompiledBy j s B
 unfolding compile
 nodes-compiled nodes records rows j s = written-compiled (λ xs. xs) nodes records rows j s

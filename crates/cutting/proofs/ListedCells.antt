@@ -20,7 +20,8 @@ use Rattle.sheet_spec.proofs.Promises.{ins-rise, outs-rise, ins-outs}
 use Rattle.cutting_spec.specs.Cuts.{CutList, cellBetween}
 use Rattle.stored_spec.specs.Cells.{rows}
 use Rattle.cutting_spec.specs.Choice.{refuse8}
-use Rattle.stored_spec.specs.StoredForm.{cellAt, cellCount, rowCount, rowsBefore, recordsFormed, rowsFormed, wellFormed, stored}
+use Rattle.stored_spec.specs.StoredForm.{cellAt, cellCount, rowCount, rowsBefore, recordsFormed, stored}
+use Rattle.stored_spec.proofs.Promises.{formed-records}
 use Rattle.cutting_spec.specs.Compile.{made}
 use Rattle.cutting_spec.specs.Listing.{cellLines}
 use Rattle.stored.specs.declared.CellPlace.{CellPlace}
@@ -91,12 +92,7 @@ module _ (j : Job) (ws l : List ℕ) (c : CutList (t j) l) where
 
 module _ (j : Job) (s : List ℕ) (e : sheetRefusal j s ≡ 0) (kept : refuse8 j (made j (table j s) .widths) ≡ false) where
   made-records : recordsFormed (made j (table j s) .records) ≡ true
-  unfolding wellFormed
-  made-records =
-      let R = made j (table j s) .records in
-      let bytes = made j (table j s) .rows in
-      let f = and-split _ (every (cellCount R) (rowsFormed R bytes)) (made-formed j s e kept) in
-      and-split (recordsFormed R) (eqb (length bytes) (rowCount R)) (f .0) .0
+  made-records = formed-records (made j (table j s) .records) (made j (table j s) .rowBytes) (made-formed j s e kept)
 
   pub listed-place : (k : ℕ) → k < made j (table j s) .cells
       → cellPlace (made j (table j s) .records) k

@@ -83,7 +83,7 @@ module _ (nodes records rows : List ℕ) (j : Job) (s : List ℕ) where
       outcome-lent = ap shown (past-sheet e ∙ not-wide narrow ∙ cond-no (refuse8 j (cascade .widths)) (kept 8) lent some)
 
       abbrev rest11 : CompiledAs ℕ
-      rest11 = cond (ltb (length rows) (length (cascade .rows))) (kept 11) (acceptance nodeWords nodes records rows j cascade)
+      rest11 = cond (ltb (length rows) (length (cascade .rowBytes))) (kept 11) (acceptance nodeWords nodes records rows j cascade)
 
       abbrev rest10 : CompiledAs ℕ
       rest10 = cond (ltb (length records) (4 * t j)) (kept 10) rest11
@@ -114,27 +114,27 @@ module _ (nodes records rows : List ℕ) (j : Job) (s : List ℕ) where
 
         module _ (space : 4 * t j ≤ length records) where
           -- 11
-          pub outcome-11 : length rows < length (made j (table j s) .rows)
+          pub outcome-11 : length rows < length (made j (table j s) .rowBytes)
               → outcomeOf (answered (refused 11)) nodes records rows ≡ outcome nodes records rows j s
           outcome-11 h =
               refused-as 11
               ∙ ap shown
               (sym
               (past-9 room ∙ past-10 space
-              ∙ cond-yes (ltb (length rows) (length (cascade .rows))) (kept 11) (acceptance nodeWords nodes records rows j cascade)
-              (lt-ltb (length rows) (length (cascade .rows)) h)))
+              ∙ cond-yes (ltb (length rows) (length (cascade .rowBytes))) (kept 11) (acceptance nodeWords nodes records rows j cascade)
+              (lt-ltb (length rows) (length (cascade .rowBytes)) h)))
               ∙ sym outcome-lent
 
           -- none
-          pub outcome-accepted : length (made j (table j s) .rows) ≤ length rows
+          pub outcome-accepted : length (made j (table j s) .rowBytes) ≤ length rows
               → outcomeOf (answered (accepted (totals j (made j (table j s))))) (written nodes 0 (nodeWords (made j (table j s) .nodes)))
-              (written records 0 (made j (table j s) .records)) (written rows 0 (made j (table j s) .rows))
+              (written records 0 (made j (table j s) .records)) (written rows 0 (made j (table j s) .rowBytes))
               ≡ outcome nodes records rows j s
           unfolding acceptance
           outcome-accepted h =
               ap shown
               (sym
               (past-9 room ∙ past-10 space
-              ∙ cond-no (ltb (length rows) (length (cascade .rows))) (kept 11) (acceptance nodeWords nodes records rows j cascade)
-              (le-ltb (length rows) (length (cascade .rows)) h)))
+              ∙ cond-no (ltb (length rows) (length (cascade .rowBytes))) (kept 11) (acceptance nodeWords nodes records rows j cascade)
+              (le-ltb (length rows) (length (cascade .rowBytes)) h)))
               ∙ sym outcome-lent

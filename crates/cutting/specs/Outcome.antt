@@ -1,6 +1,6 @@
 -- What the compiler's code gives back: the answer as its structure, and the three memories after.
 -- Assumes nothing.
-use Prim.Native.Nat.{ℕ, _*_}
+use Prim.Native.Nat.{ℕ, _*_, _/_}
 use mathlib.Core.Bool.{cond}
 use mathlib.Core.List.{List}
 use lib.Dec.{eqb, ltb}
@@ -34,4 +34,4 @@ outcome nodes records rows j s = shown (compileWords nodes records rows j s)
 -- 8 to 11 for a plan of so many cells, nodes, variables and rows and memories of these lengths; 0 where there is none
 unfoldable pub planRefusal : ℕ → ℕ → ℕ → ℕ → ℕ → ℕ → ℕ → ℕ
 planRefusal cells made t total nodes records rows =
-    cond (eqb cells 0) 8 (cond (ltb nodes (made * 3)) 9 (cond (ltb records (t * 4)) 10 (cond (ltb rows total) 11 0)))
+    cond (eqb cells 0) 8 (cond (ltb nodes (made * 3)) 9 (cond (ltb records (t * 4)) 10 (cond (ltb (rows / 2) total) 11 0)))

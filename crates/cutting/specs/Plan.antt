@@ -1,6 +1,6 @@
 -- The parts of a compile as the code makes them, from the order and the widths at the heights below t.
 -- Assumes nothing.
-use Prim.Native.Nat.{ℕ, zero, suc, _+_, _-_, _*_, _^_, _≤_, _<_}
+use Prim.Native.Nat.{ℕ, zero, suc, _+_, _-_, _*_, _/_, _%_, _^_, _≤_, _<_}
 use mathlib.Core.Bool.{Bool, cond}
 use mathlib.Core.List.{List, [], _∷_}
 use lib.Dec.{eqb, ltb}
@@ -67,13 +67,17 @@ recordIn t order rs cs n i =
     let g = t - suc i in
     getD order i 0 ∷ flag (isCut cs n g) ∷ cond (isCut cs n g) (getD rs g 0) 0 ∷ 0 ∷ []
 
+-- byte i of rows, two bytes a row, low byte first
+unfoldable pub rowByte : List ℕ → ℕ → ℕ
+rowByte rows i = getD rows (i / 2) 0 / 2 ^ (8 * (i % 2)) % 256
+
 -- the rows of the cell between the cuts a and b by walks over the node words
 module _ (t : ℕ) (words order ws rs is : List ℕ) where
   unfoldable pub rowBetween : ℕ → ℕ → ℕ → ℕ
   rowBetween a b x =
       walkedRow words order a b (firstIn t ws a) (widthUp t ws a) (firstIn t ws b) (getD rs b 0) (getD is a 0 - getD is b 0) x
 
-  -- what a cell needs to be written: its numbers are small, the rows of its columns are among its rows, and each row is a byte
+  -- what a cell needs to be written: its numbers are small, the rows of its columns are among its rows, and each row has 16 bits
   pub record Writable (a b : ℕ) : Type 0 where
     pub upper : a ≤ t
     pub lower : b ≤ t
@@ -81,7 +85,7 @@ module _ (t : ℕ) (words order ws rs is : List ℕ) where
     pub inputs : getD is a 0 - getD is b 0 ≤ largestInputs
     pub nodes : firstIn t ws a + widthUp t ws a ≤ 65536
     pub columns : widthUp t ws a * 2 ^ (getD is a 0 - getD is b 0) ≤ usableRows (listCell rs is a b)
-    pub bytes : (x : ℕ) → x < usableRows (listCell rs is a b) → rowBetween a b x < 256
+    pub small : (x : ℕ) → x < usableRows (listCell rs is a b) → rowBetween a b x < 65536
 
   -- the list l after the rows of the first n cells of the cuts cs are stored one after another
   unfoldable pub rowsStored : List ℕ → ℕ → List ℕ → List ℕ

@@ -24,11 +24,11 @@ fn power(n: u8) -> usize
     1 << n
 }
 
-fn byte(x: u32) -> u8
-    requires { ⌜ x < 256 ⌝ }
+fn short(x: u32) -> u16
+    requires { ⌜ x < 65536 ⌝ }
     ensures { λ r. ⌜ r ≡ x ⌝ }
 {
-    x as u8
+    x as u16
 }
 
 // a less b, or 0.
@@ -43,18 +43,18 @@ fn less(a: u16, b: u16) -> u16
 
 // o put above the rails.
 fn raised(o: u32, rails: usize) -> u32
-    requires { ⌜ (rails ≤ 8) × (o * 2 ^ rails < 256) ⌝ }
+    requires { ⌜ (rails ≤ 16) × (o * 2 ^ rails < 65536) ⌝ }
     ensures { λ r. ⌜ r ≡ o * 2 ^ rails ⌝ }
 {
     o << rails
 }
 
 // The row of a walk that met the outputs o and reached a node, where lower is the node of column 0.
-fn row_from(o: u32, node: u16, lower: u16, rails: usize) -> u8
-    requires { ⌜ (rails ≤ 8) × (o * 2 ^ rails + (node - lower) < 256) ⌝ }
+fn row_from(o: u32, node: u16, lower: u16, rails: usize) -> u16
+    requires { ⌜ (rails ≤ 16) × (o * 2 ^ rails + (node - lower) < 65536) ⌝ }
     ensures { λ r. ⌜ r ≡ o * 2 ^ rails + (node - lower) ⌝ }
 {
-    byte(raised(o, rails) + long16(less(node, lower)))
+    short(raised(o, rails) + long16(less(node, lower)))
 }
 
 // The variable k + 1 heights above bottom is an input.
@@ -95,7 +95,7 @@ fn with_output(o: u32, low: u16) -> u32
 }
 
 // The same row at the size places from at on.
-fn write_same(row: u8, at: usize, size: usize, rows: &mut [u8])
+fn write_same(row: u16, at: usize, size: usize, rows: &mut [u16])
     requires { ⌜ at + size ≤ length (now rows) ⌝ }
     ensures { λ _. ⌜ now (rows .exit) ≡ putsAt at size (λ i. row) (now (rows .entry)) ⌝ }
 {
@@ -118,9 +118,9 @@ fn last_row(
     lower: u16,
     rails: usize,
     x: usize,
-) -> u8
-    requires { ⌜ (k ≤ 20) × (o < 2 ^ (20 - k)) × (rails ≤ 8)
-        × (rowFrom lower rails (descend (now words) (now order) bottom k node x 0 o) < 256) ⌝ }
+) -> u16
+    requires { ⌜ (k ≤ 20) × (o < 2 ^ (20 - k)) × (rails ≤ 16)
+        × (rowFrom lower rails (descend (now words) (now order) bottom k node x 0 o) < 65536) ⌝ }
     ensures { λ r. ⌜ r ≡ rowFrom lower rails (descend (now (words .entry)) (now (order .entry)) bottom k node x 0 o) ⌝ }
 {
     if (k == 0) | (node < 2) {
@@ -151,10 +151,10 @@ fn fill_block(
     lower: u16,
     rails: usize,
     x: usize,
-    rows: &mut [u8],
+    rows: &mut [u16],
 )
-    requires { ⌜ (k ≤ 20) × (o < 2 ^ (20 - k)) × (rails ≤ 8) × (count ≤ 12) × (x % 2 ^ count ≡ 0) × (x + 2 ^ count ≤ length (now rows))
-        × ((i : ℕ) → i < 2 ^ count → rowFrom lower rails (descend (now words) (now order) bottom k node (x + i) count o) < 256) ⌝ }
+    requires { ⌜ (k ≤ 20) × (o < 2 ^ (20 - k)) × (rails ≤ 16) × (count ≤ 12) × (x % 2 ^ count ≡ 0) × (x + 2 ^ count ≤ length (now rows))
+        × ((i : ℕ) → i < 2 ^ count → rowFrom lower rails (descend (now words) (now order) bottom k node (x + i) count o) < 65536) ⌝ }
     ensures { λ _.
         ⌜ now (rows .exit)
         ≡ putsAt x (2 ^ count) (λ i. rowFrom lower rails (descend (now (words .entry)) (now (order .entry)) bottom k node (x + i) count o))
@@ -242,10 +242,10 @@ fn write_column(
     node: u16,
     at: usize,
     size: usize,
-    rows: &mut [u8],
+    rows: &mut [u16],
 )
-    requires { ⌜ (rails ≤ 8) × (size ≡ 2 ^ count) × (count ≤ 12) × (at + size ≤ length (now rows))
-        × ((x : ℕ) → x < size → nodeRow (now words) (now order) top bottom lower rails count node x < 256) ⌝ }
+    requires { ⌜ (rails ≤ 16) × (size ≡ 2 ^ count) × (count ≤ 12) × (at + size ≤ length (now rows))
+        × ((x : ℕ) → x < size → nodeRow (now words) (now order) top bottom lower rails count node x < 65536) ⌝ }
     ensures { λ _.
         ⌜ now (rows .exit)
         ≡ putsAt at size (nodeRow (now (words .entry)) (now (order .entry)) top bottom lower rails count node) (now (rows .entry)) ⌝ }
@@ -278,10 +278,10 @@ fn write_columns(
     count: u8,
     at: usize,
     size: usize,
-    rows: &mut [u8],
+    rows: &mut [u16],
 )
-    requires { ⌜ (rails ≤ 8) × (size ≡ 2 ^ count) × (size ≤ 4096) × (upper + width ≤ 65536) × (at + width * size ≤ length (now rows))
-        × ((i : ℕ) → i < width * size → walkedRow (now words) (now order) top bottom upper width lower rails count i < 256) ⌝ }
+    requires { ⌜ (rails ≤ 16) × (size ≡ 2 ^ count) × (size ≤ 4096) × (upper + width ≤ 65536) × (at + width * size ≤ length (now rows))
+        × ((i : ℕ) → i < width * size → walkedRow (now words) (now order) top bottom upper width lower rails count i < 65536) ⌝ }
     ensures { λ _.
         ⌜ now (rows .exit)
         ≡ putsAt at (width * size) (walkedRow (now (words .entry)) (now (order .entry)) top bottom upper width lower rails count)
@@ -321,10 +321,10 @@ pub fn write_rows(
     count: u8,
     at: usize,
     size: usize,
-    rows: &mut [u8],
+    rows: &mut [u16],
 )
-    requires { ⌜ (rails ≤ 8) × (count ≤ 12) × (upper + width ≤ 65536) × (width * 2 ^ count ≤ size) × (at + size ≤ length (now rows))
-        × ((i : ℕ) → i < size → walkedRow (now words) (now order) top bottom upper width lower rails count i < 256) ⌝ }
+    requires { ⌜ (rails ≤ 16) × (count ≤ 12) × (upper + width ≤ 65536) × (width * 2 ^ count ≤ size) × (at + size ≤ length (now rows))
+        × ((i : ℕ) → i < size → walkedRow (now words) (now order) top bottom upper width lower rails count i < 65536) ⌝ }
     ensures { λ _.
         ⌜ now (rows .exit)
         ≡ putsAt at size (walkedRow (now (words .entry)) (now (order .entry)) top bottom upper width lower rails count) (now (rows .entry)) ⌝ }

@@ -55,7 +55,7 @@ fn write_cell(
     top: usize,
     bottom: usize,
     at: usize,
-    rows: &mut [u8],
+    rows: &mut [u16],
 ) -> usize
     requires { ⌜ (t ≤ 20) × ((g : ℕ) → g ≤ t → widthUp t (now widths) g ≤ 512)
         × Writable t (now words) (now order) (now widths) (now rails) (now inputs) top bottom
@@ -99,7 +99,7 @@ pub fn write_cells(
     inputs: &[u8; 21],
     cuts: &[u8; 21],
     cells: usize,
-    rows: &mut [u8],
+    rows: &mut [u16],
 )
     requires { ⌜ (t ≤ 20) × (cells ≤ 20) × ((g : ℕ) → g ≤ t → widthUp t (now widths) g ≤ 512)
         × ((i : ℕ) → i < cells → Writable t (now words) (now order) (now widths) (now rails) (now inputs)

@@ -72,7 +72,7 @@ fn better_of(u: Way, v: Way) -> Way
 
 // The better of v and the cell c down to g with the way w from there.
 fn with_cut(k: usize, l: usize, c: Cell, g: u8, w: Way, v: Way) -> Way
-    requires { ⌜ (k ≤ largestInputs) × (l ≤ largestOutputs) × (w .cuts ≤ 21) × (w .bits ≤ 655360) ⌝ }
+    requires { ⌜ (k ≤ largestInputs) × (l ≤ largestOutputs) × (w .cuts ≤ 21) × (w .bits ≤ 1310720) ⌝ }
     ensures { λ r. ⌜ r ≡ withCutAt k l c g w v ⌝ }
 {
     if c.fits(k, l) {

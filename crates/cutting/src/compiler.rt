@@ -6,10 +6,10 @@ ghost use Rattle.cutting_spec.specs.Compile.{refused};
 ghost use Rattle.cutting.specs.Outcome.{answered, outcomeOf, outcome, planRefusal};
 use crate::Compilation;
 use crate::casts::narrow16;
-use crate::cells::write_cells;
 use crate::plan::plan_cells;
 use crate::records::write_records;
 use crate::records::write_words;
+use crate::row_bytes::write_row_bytes;
 use numbers::wide;
 use numbers::wide16;
 use reduction::reduce;
@@ -53,7 +53,7 @@ fn plan_refusal(
     if records < size {
         return 10;
     }
-    if rows < total {
+    if rows / 2 < total {
         return 11;
     }
     0
@@ -104,7 +104,7 @@ pub fn compile_all(
     let lent_cuts = &cuts;
     write_words(wide16(reduced.nodes) * 3, lent_words, nodes);
     write_records(t, order, lent_rails, lent_cuts, cells + 1, records);
-    write_cells(
+    write_row_bytes(
         t,
         lent_words,
         order,
@@ -113,6 +113,7 @@ pub fn compile_all(
         &inputs,
         lent_cuts,
         cells,
+        plan.rows,
         rows,
     );
     Compilation {

@@ -6,6 +6,7 @@ mod choice;
 mod compiler;
 mod plan;
 mod records;
+mod row_bytes;
 
 ghost use mathlib.Core.Path.{_≡_};
 ghost use Rattle.sheet_spec.specs.Job.{job};

@@ -85,7 +85,7 @@ module _ {A : Type 0} (held : List Node → List A) (nodes : List A) (records ro
       ∷ refuse8 j (made j (table j s) .widths)
       ∷ ltb (length nodes) (length (held (made j (table j s) .nodes)))
       ∷ ltb (length records) (4 * t j)
-      ∷ ltb (length rows) (length (made j (table j s) .rows))
+      ∷ ltb (length rows) (length (made j (table j s) .rowBytes))
       ∷ []) n false
 
   -- n is the lowest refusal whose case holds
@@ -103,7 +103,7 @@ module _ {A : Type 0} (held : List Node → List A) (nodes : List A) (records ro
       first-case (refusal held nodes records rows) (acceptance held nodes records rows j (made j (table j s))) (refuse1 j) (refuse2 j)
       (refuse3 s) (refuse4 j s) (refuse5 j s) (refuse6 j s) (refuse7 j (table j s)) (refuse8 j (made j (table j s) .widths))
       (ltb (length nodes) (length (held (made j (table j s) .nodes)))) (ltb (length records) (4 * t j))
-      (ltb (length rows) (length (made j (table j s) .rows)))
+      (ltb (length rows) (length (made j (table j s) .rowBytes)))
 
   first-is : (n : ℕ) → n < 12 → Lowest n → first ≡ n
   unfolding first
@@ -183,30 +183,30 @@ module _ (j : Job) (s : List ℕ) (e : sheetRefusal j s ≡ 0) where
 -- and with a cut list
 module _ (j : Job) (s : List ℕ) (e : sheetRefusal j s ≡ 0) (kept : refuse8 j (made j (table j s) .widths) ≡ false) where
   -- what is written is well formed
-  pub made-stored : wellFormed (made j (table j s) .records) (made j (table j s) .rows) ≡ true
+  pub made-stored : wellFormed (made j (table j s) .records) (made j (table j s) .rowBytes) ≡ true
   made-stored = made-formed j s e kept
 
   -- it can be read, and writing what was read gives the same bytes
-  pub made-read : (records rows : List ℕ) → length (made j (table j s) .records) ≤ length records → length (made j (table j s) .rows) ≤ length rows
-      → (read (made j (table j s) .records) (made j (table j s) .rows) ≡ wasRead (cascadeOf (made j (table j s) .records) (made j (table j s) .rows)))
-      × (write (cascadeOf (made j (table j s) .records) (made j (table j s) .rows)) records rows
-      ≡ writtenAs 0 (written records 0 (made j (table j s) .records)) (written rows 0 (made j (table j s) .rows)))
+  pub made-read : (records rows : List ℕ) → length (made j (table j s) .records) ≤ length records → length (made j (table j s) .rowBytes) ≤ length rows
+      → (read (made j (table j s) .records) (made j (table j s) .rowBytes) ≡ wasRead (cascadeOf (made j (table j s) .records) (made j (table j s) .rowBytes)))
+      × (write (cascadeOf (made j (table j s) .records) (made j (table j s) .rowBytes)) records rows
+      ≡ writtenAs 0 (written records 0 (made j (table j s) .records)) (written rows 0 (made j (table j s) .rowBytes)))
   unfolding read
   made-read records rows p q =
       let R = made j (table j s) .records in
-      let bytes = made j (table j s) .rows in
+      let bytes = made j (table j s) .rowBytes in
       let was : read R bytes ≡ wasRead (cascadeOf R bytes) = cond-yes (wellFormed R bytes) (wasRead (cascadeOf R bytes)) (notRead 12) made-stored in
       (was, read-write R bytes (cascadeOf R bytes) was records rows p q)
 
   -- for every word w, at the k-th cut: the rail word is the number of the merged column of w's prefix
   pub made-rail : (w k : ℕ) → k < length (made j (table j s) .cuts)
-      → run (made j (table j s) .records) (made j (table j s) .rows) w k .rail
+      → run (made j (table j s) .records) (made j (table j s) .rowBytes) w k .rail
       ≡ numberAt j (reduced j (table j s)) (layer (layers j (reduced j (table j s))) (getD (made j (table j s) .cuts) k 0))
       (getD (made j (table j s) .cuts) k 0) (numberOf (inputList j) w / 2 ^ ins j (getD (made j (table j s) .cuts) k 0))
   made-rail w k h = made-emits j s e kept w k h .rail
 
   -- and after the last cell each output is set to a value that the sheet allows
   pub made-allowed : (w o : ℕ) → o < j .m
-      → (getD (run (made j (table j s) .records) (made j (table j s) .rows) w (made j (table j s) .cells) .outputs) o 2 < 2)
-      × (allows (value s w o) (getD (run (made j (table j s) .records) (made j (table j s) .rows) w (made j (table j s) .cells) .outputs) o 2) ≡ true)
+      → (getD (run (made j (table j s) .records) (made j (table j s) .rowBytes) w (made j (table j s) .cells) .outputs) o 2 < 2)
+      × (allows (value s w o) (getD (run (made j (table j s) .records) (made j (table j s) .rowBytes) w (made j (table j s) .cells) .outputs) o 2) ≡ true)
   made-allowed = made-all j s e kept

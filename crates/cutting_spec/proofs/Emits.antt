@@ -29,7 +29,7 @@ use Rattle.stored_spec.specs.Rails.{railsAt}
 use Rattle.cutting_spec.specs.Compile.{widthsOf}
 use Rattle.cutting_spec.specs.Rows.{rowOf, cascadeRows}
 use Rattle.stored_spec.specs.StoredForm.{StoredCell, cellAt, rowsBefore, stored}
-use Rattle.stored_spec.specs.Run.{address, rowPlace, setOutputs, outputsAfter, railAfter, unset, Running, ranOne, run}
+use Rattle.stored_spec.specs.Run.{address, rowPlace, setOutputs, outputsAfter, railAfter, unset, Running, ranOneBy, runBy}
 use Rattle.stored_spec.proofs.Promises.{set-length}
 use Rattle.cutting_spec.proofs.StoredCuts.{outsFrom, storedBetween, cell-at, rows-at, cuts-fall, cuts-most, cuts-first, cuts-last, cuts-some}
 use Rattle.cutting_spec.proofs.RailCounts.{rails-hold}
@@ -48,7 +48,8 @@ pub record Emitted (j : Job) (f : List ℕ) (x b : ℕ) (s : Running) : Type 0 w
 
 -- the run over the word w of a function's cascade with the cuts l, after k cells
 abbrev pub ranOver : Job → List ℕ → List ℕ → ℕ → ℕ → Running
-ranOver j f l w k = run (stored j (widthsOf (layers j f)) l) (cascadeRows j f (layers j f) (widthsOf (layers j f)) l) w k
+ranOver j f l w k =
+    runBy (λ p. getD (cascadeRows j f (layers j f) (widthsOf (layers j f)) l) p 0) (stored j (widthsOf (layers j f)) l) w k
 
 module _ (j : Job) (once : notEachOnce (j .n) (j .m) (j .order) ≡ false) (few : j .n ≤ 12) (out : j .m ≤ 8) (f : List ℕ)
     (ruled : Ruled (j .n) (j .m) (insBelow (t j) (j .order)) f) (l : List ℕ) (cuts : CutList (t j) l) (w : ℕ) where
@@ -64,6 +65,9 @@ module _ (j : Job) (once : notEachOnce (j .n) (j .m) (j .order) ≡ false) (few 
   abbrev bytes : List ℕ
   bytes = cascadeRows j f ls ws l
 
+  abbrev rowAt : ℕ → ℕ
+  rowAt p = getD bytes p 0
+
   abbrev x : ℕ
   x = numberOf (inputList j) w
 
@@ -75,8 +79,8 @@ module _ (j : Job) (once : notEachOnce (j .n) (j .m) (j .order) ≡ false) (few 
   none-set o =
       by-less o 8 (λ p. getD-replicate {A = ℕ} 8 o 2 2 p) (λ p. List·getD-eq-default unset 2 {n = o} (omega (arith, length-replicate {A = ℕ} 8 2)))
 
-  starts : Emitted j f x (getD l 0 0) (run R bytes w 0)
-  unfolding run
+  starts : Emitted j f x (getD l 0 0) (runBy rowAt R w 0)
+  unfolding runBy
   starts =
       let top = cuts-first cuts in
       let below = column-below j once few out f (t j) (x / 2 ^ ins j (t j)) (omega arith) (prefix-small j once few out f (t j) x (omega arith) small) in
@@ -123,13 +127,13 @@ module _ (j : Job) (once : notEachOnce (j .n) (j .m) (j .order) ≡ false) (few 
         ap (λ (i : ℕ). getD bytes (rowsBefore R k + i) 0) place ∙ rows-at j f ls ws l cuts k i within i<
         ∙ row-read j once few out f a b x top le small
 
-    ran : ranOne R bytes w k s
+    ran : ranOneBy rowAt R w k s
         ≡ record { rail = byte % 2 ^ railsAt j ws b; outputs = setOutputs (s .outputs) (outsFrom j a (a - b)) (byte / 2 ^ railsAt j ws b) }
-    unfolding ranOne railAfter outputsAfter storedBetween
+    unfolding ranOneBy railAfter outputsAfter storedBetween
     ran =
         ap₂ (λ (c : StoredCell) (y : ℕ). record { rail = railAfter c y; outputs = outputsAfter c (s .outputs) y }) (cell-at j ws l cuts k within) reads
 
-    next-is : Emitted j f x b (ranOne R bytes w k s)
+    next-is : Emitted j f x b (ranOneBy rowAt R w k s)
     next-is =
         let le : b ≤ a = omega (arith, fall) in
         let y = byte / 2 ^ railsAt j ws b in
@@ -154,9 +158,9 @@ module _ (j : Job) (once : notEachOnce (j .n) (j .m) (j .order) ≡ false) (few 
         })
 
   pub emits : (k : ℕ) → k < length l → Emitted j f (numberOf (inputList j) w) (getD l k 0) (ranOver j f l w k)
-  unfolding run
+  unfolding runBy
   emits zero h = starts
-  emits (suc k) h = next-is k h (run R bytes w k) (emits k (omega arith))
+  emits (suc k) h = next-is k h (runBy rowAt R w k) (emits k (omega arith))
 
 -- a sheet says the same of words with the same inputs
 module _ (j : Job) (s : List ℕ) (e : sheetRefusal j s ≡ 0) where

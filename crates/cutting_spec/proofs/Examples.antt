@@ -21,7 +21,7 @@ use Rattle.stored_spec.specs.StoredForm.{wellFormed}
 use Rattle.stored_spec.specs.Run.{run}
 use Rattle.stored_spec.specs.ReadWrite.{read, notRead, cascadeOf, write}
 use Rattle.cutting_spec.specs.Compile.{made}
-use Rattle.cutting_spec.specs.Example.{recordsA, rowsA}
+use Rattle.cutting_spec.specs.Example.{recordsA, rowsA, rowBytesA}
 
 -- T's widths at the heights 0 to 6
 abbrev widthsT : List ℕ
@@ -75,20 +75,20 @@ unfolding sheetOpened reductionOpened cuttingOpened
 T-made = (refl, refl, refl)
 
 -- A's stored form: well formed, not so with a row of 4; read, and written over other bytes
-pub A-formed : wellFormed recordsA rowsA ≡ true
+pub A-formed : wellFormed recordsA rowBytesA ≡ true
 unfolding sheetOpened cuttingOpened
 A-formed = refl
 
-pub A-spoilt : read recordsA (4 ∷ 1 ∷ 2 ∷ 2 ∷ 0 ∷ 3 ∷ 2 ∷ 2 ∷ 1 ∷ 1 ∷ 0 ∷ 0 ∷ 2 ∷ 3 ∷ 2 ∷ 2 ∷ []) ≡ notRead 12
+pub A-spoilt : read recordsA (4 ∷ 0 ∷ 1 ∷ 0 ∷ 2 ∷ 0 ∷ 2 ∷ 0 ∷ 0 ∷ 0 ∷ 3 ∷ 0 ∷ 2 ∷ 0 ∷ 2 ∷ 0 ∷ 1 ∷ 0 ∷ 1 ∷ 0 ∷ 0 ∷ 0 ∷ 0 ∷ 0 ∷ 2 ∷ 0 ∷ 3 ∷ 0 ∷ 2 ∷ 0 ∷ 2 ∷ 0 ∷ []) ≡ notRead 12
 unfolding sheetOpened cuttingOpened
 A-spoilt = refl
 
-pub A-written : write (cascadeOf recordsA rowsA) (replicate 25 9) (replicate 17 9)
-    ≡ record { answer = 0; records = recordsA ++ (9 ∷ []); rows = rowsA ++ (9 ∷ []) }
+pub A-written : write (cascadeOf recordsA rowBytesA) (replicate 25 9) (replicate 33 9)
+    ≡ record { answer = 0; records = recordsA ++ (9 ∷ []); rows = rowBytesA ++ (9 ∷ []) }
 unfolding sheetOpened cuttingOpened
 A-written = refl
 
 -- run over x1x2x3x4 = 1010, the word 5: rail word 3 below the first cell; then y1 is 1 and y2 is 0
-pub A-run : (run recordsA rowsA 5 1 .rail ≡ 3) × (run recordsA rowsA 5 2 .outputs ≡ 1 ∷ 0 ∷ 2 ∷ 2 ∷ 2 ∷ 2 ∷ 2 ∷ 2 ∷ [])
+pub A-run : (run recordsA rowBytesA 5 1 .rail ≡ 3) × (run recordsA rowBytesA 5 2 .outputs ≡ 1 ∷ 0 ∷ 2 ∷ 2 ∷ 2 ∷ 2 ∷ 2 ∷ 2 ∷ [])
 unfolding sheetOpened cuttingOpened
 A-run = (refl, refl)

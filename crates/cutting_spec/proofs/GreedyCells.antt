@@ -18,9 +18,9 @@ use Rattle.sheet_spec.specs.Refusals.{notEachOnce, sheetRefusal}
 use Rattle.sheet_spec.specs.Table.{table}
 use Rattle.sheet_spec.specs.Accepted.{Accepted}
 use Rattle.sheet_spec.proofs.Promises.{ins-rise, outs-rise, job-accepted}
-use Rattle.reduction_spec.specs.Columns.{firstsAt, width, layers, widthIn}
-use Rattle.reduction_spec.specs.Merge.{reduced}
-use Rattle.reduction_spec.proofs.Promises.{width-few, width-step, width-layer}
+use Rattle.reduction_spec.specs.Columns.{width, layers, widthIn}
+use Rattle.reduction_spec.specs.Merge.{reduced, refuse7}
+use Rattle.reduction_spec.proofs.Promises.{width-step, width-layer}
 use Rattle.stored_spec.specs.Cells.{fits, allFit}
 use Rattle.stored_spec.specs.Rails.{rails, railsAt}
 use Rattle.stored_spec.proofs.Promises.{rails-least, rails-at}
@@ -31,8 +31,7 @@ use Rattle.cutting_spec.specs.Compile.{widthsOf, made}
 use Rattle.cutting_spec.proofs.Better.{cellsIn, first-less, better-is}
 use Rattle.cutting_spec.proofs.Demand2.{best-list}
 use Rattle.cutting_spec.proofs.RailCounts.{rails-hold, width-at}
-use Rattle.cutting_spec.proofs.RowLimit.{cells-next, admissible-fits}
-use Rattle.cutting_spec.proofs.StoredWell.{job-limits}
+use Rattle.cutting_spec.proofs.RowLimit.{cells-next, sheet-fits}
 
 -- the longest cell from a cut, and the cuts from there on
 module _ (j : Job) (ws : List ℕ) where
@@ -138,21 +137,18 @@ module _ (j : Job) (once : notEachOnce (j .n) (j .m) (j .order) ≡ false) (few 
 abbrev pub widthsFor : Job → List ℕ → List ℕ
 widthsFor j s = made j (table j s) .widths
 
--- an accepted job and sheet
-module _ (j : Job) (s : List ℕ) (e : sheetRefusal j s ≡ 0) where
+-- an accepted job and sheet whose widths are not refused
+module _ (j : Job) (s : List ℕ) (e : sheetRefusal j s ≡ 0) (seven : refuse7 j (table j s) ≡ false) where
   -- the greedy list is an admissible cut list wherever there is one, and has the fewest cells
   pub greedy-fewest : (l : List ℕ) → CutList (t j) l → admissible j (widthsFor j s) l ≡ true
       → CutList (t j) (greedy j (widthsFor j s)) × (admissible j (widthsFor j s) (greedy j (widthsFor j s)) ≡ true)
       × (length (cellsOf j (widthsFor j s) (greedy j (widthsFor j s))) ≤ length (cellsOf j (widthsFor j s) l))
-  unfolding made greedy width firstsAt
+  unfolding made greedy
   greedy-fewest l c a =
       let r : Accepted (j .n) (j .m) (j .order) s = job-accepted j s e in
       let f = reduced j (table j s) in
       let ws = widthsOf (layers j f) in
-      let narrow : (h : ℕ) → h ≤ t j → getD ws h 0 ≤ 2 ^ (j .n - ins j h) =
-      λ h p. omega (arith, width-at (layers j f) h, width-layer j f h p, width-few (j .n) (ins j h) (outs j h) f) in
-      let fit : (k : List ℕ) → CutList (t j) k → admissible j ws k ≡ allFit (j .K) (j .L) (cellsOf j ws k) =
-      admissible-fits j ws (r .order-whole) (r .inputs) (r .outputs) (job-limits j s e .2) narrow in
+      let fit = sheet-fits j s e seven in
       let g = greedy-below j (r .order-whole) (r .inputs) (r .outputs) f c (omega arith) (sym (fit l c) ∙ a) (t j) (t j) (omega arith) (omega arith) in
       (g .falls, fit (greedy j ws) (g .falls) ∙ g .fit, g .few)
 

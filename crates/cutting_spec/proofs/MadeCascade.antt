@@ -4,7 +4,7 @@
 use mathlib.Core.Path.{_≡_, refl, sym, _∙_}
 use mathlib.Core.Bool.{true, false}
 use mathlib.Core.List.{List, [], _∷_}
-use Prim.Native.Nat.{ℕ, _-_, _<_}
+use Prim.Native.Nat.{ℕ, _-_, _<_, _^_}
 use native.Mathlib.Omega.{arith}
 use lib.ListN.{length, getD}
 use Rattle.sheet_spec.specs.Job.{Job, t, inputList, numberOf}
@@ -15,12 +15,16 @@ use Rattle.reduction_spec.specs.Columns.{layers}
 use Rattle.reduction_spec.specs.Merge.{reduced}
 use Rattle.cutting_spec.specs.Cuts.{CutList, cellsOf}
 use Rattle.cutting_spec.specs.Choice.{refuse8}
-use Rattle.stored_spec.specs.StoredForm.{cellCount, wellFormed}
-use Rattle.stored_spec.specs.Run.{run}
+use Rattle.stored_spec.specs.RowBytes.{twoBytes, rowValue}
+use Rattle.stored_spec.specs.StoredForm.{cellCount, rowCount, wellFormed}
+use Rattle.stored_spec.specs.Run.{run, runBy}
+use Rattle.stored_spec.proofs.Promises.{formed-records}
+use Rattle.stored_spec.proofs.Promises.{row-kept}
+use Rattle.stored_spec.proofs.Promises.{same-rows}
 use Rattle.cutting_spec.specs.Compile.{widthsOf, made}
-use Rattle.cutting_spec.proofs.StoredCuts.{cell-count}
+use Rattle.cutting_spec.proofs.StoredCuts.{cell-count, rows-length, cuts-some}
 use Rattle.cutting_spec.proofs.Emits.{Emitted, compiled-emits, compiled-all}
-use Rattle.cutting_spec.proofs.StoredWell.{compiled-formed}
+use Rattle.cutting_spec.proofs.StoredWell.{compiled-formed, compiled-small}
 use Rattle.cutting_spec.proofs.ChosenCuts.{chosen-cuts, chosen-admissible}
 
 pub cells-count : (j : Job) (ws l : List ℕ) → length (cellsOf j ws l) ≡ length l - 1
@@ -41,23 +45,45 @@ module _ (j : Job) (s : List ℕ) (e : sheetRefusal j s ≡ 0) (kept : refuse8 j
       let ws = widthsOf (layers j (reduced j (table j s))) in
       cell-count j ws l made-cuts ∙ sym (cells-count j ws l)
 
-  pub made-formed : wellFormed (made j (table j s) .records) (made j (table j s) .rows) ≡ true
+  pub made-formed : wellFormed (made j (table j s) .records) (made j (table j s) .rowBytes) ≡ true
   unfolding made
   made-formed = compiled-formed j s e (made j (table j s) .cuts) made-cuts (chosen-admissible j (made j (table j s) .widths) kept)
 
+  -- the rows read from their bytes
+  made-rows : (p : ℕ) → p < rowCount (made j (table j s) .records) → rowValue twoBytes (made j (table j s) .rowBytes) p ≡ getD (made j (table j s) .rows) p 0
+  unfolding made
+  made-rows p h =
+      let l = made j (table j s) .cuts in
+      let f = reduced j (table j s) in
+      let n = rows-length j f (layers j f) (widthsOf (layers j f)) l made-cuts in
+      let q : p < length (made j (table j s) .rows) = omega (arith, n) in
+      row-kept twoBytes (made j (table j s) .rows) p q
+      (compiled-small j s e l made-cuts (chosen-admissible j (made j (table j s) .widths) kept) p q)
+
   module _ (w : ℕ) where
+    -- a run over them is a run over the rows
+    pub made-run : (k : ℕ) → k < length (made j (table j s) .cuts)
+        → run (made j (table j s) .records) (made j (table j s) .rowBytes) w k
+        ≡ runBy (λ p. getD (made j (table j s) .rows) p 0) (made j (table j s) .records) w k
+    unfolding made
+    made-run k h =
+        same-rows (made j (table j s) .records) (formed-records _ _ made-formed) (rowValue twoBytes (made j (table j s) .rowBytes))
+        (λ p. getD (made j (table j s) .rows) p 0) made-rows w k (omega (arith, made-count, cells-count j (made j (table j s) .widths) (made j (table j s) .cuts)))
+
     -- after k cells
     pub made-emits : (k : ℕ) → k < length (made j (table j s) .cuts)
         → Emitted j (reduced j (table j s)) (numberOf (inputList j) w) (getD (made j (table j s) .cuts) k 0)
-        (run (made j (table j s) .records) (made j (table j s) .rows) w k)
+        (run (made j (table j s) .records) (made j (table j s) .rowBytes) w k)
     unfolding made
-    made-emits = compiled-emits j s e (made j (table j s) .cuts) made-cuts w
+    made-emits k h = rw (made-run k h) (compiled-emits j s e (made j (table j s) .cuts) made-cuts w k h)
 
     -- after all cells
     pub made-all : (o : ℕ) → o < j .m
-        → (getD (run (made j (table j s) .records) (made j (table j s) .rows) w (made j (table j s) .cells) .outputs) o 2 < 2)
-        × (allows (value s w o) (getD (run (made j (table j s) .records) (made j (table j s) .rows) w (made j (table j s) .cells) .outputs) o 2) ≡ true)
+        → (getD (run (made j (table j s) .records) (made j (table j s) .rowBytes) w (made j (table j s) .cells) .outputs) o 2 < 2)
+        × (allows (value s w o) (getD (run (made j (table j s) .records) (made j (table j s) .rowBytes) w (made j (table j s) .cells) .outputs) o 2) ≡ true)
     unfolding made
     made-all o h =
         let l = made j (table j s) .cuts in
-        rw (cells-count j (widthsOf (layers j (reduced j (table j s)))) l) (compiled-all j s e l made-cuts w o h)
+        let n = cells-count j (widthsOf (layers j (reduced j (table j s)))) l in
+        let some = cuts-some made-cuts in
+        rw (n, made-run (length l - 1) (omega arith)) (compiled-all j s e l made-cuts w o h)

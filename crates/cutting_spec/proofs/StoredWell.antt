@@ -8,12 +8,13 @@ use native.Mathlib.Nat.{not-suc-le-zero, mod-lt}
 use native.Mathlib.Omega.{arith}
 use lib.Dec.{eqb, leb, ltb}
 use lib.ListN.{length, getD}
-use lib.Pow.{pow-pos, shl-lt, shl-shr}
+use lib.Pow.{pow-pos, pow-mono, shl-lt, shl-shr}
 use borrow.Author.Tests.{eq-eqb, ne-eqb, leb-true, le-leb, ltb-true, lt-ltb, not-false}
 use Rattle.laws.specs.Tests.{within}
 use Rattle.laws.specs.Bits.{flag}
 use Rattle.laws.proofs.Cases.{by-test, cond-each, and-split, and-join}
 use Rattle.laws.proofs.Tests.{every-of}
+use Rattle.laws.proofs.Counts.{sum-at, in-part}
 use Rattle.laws.proofs.Powers.{place-below}
 use Rattle.sheet_spec.specs.Job.{Job, t, ins, outs, varAt, isInput}
 use Rattle.sheet_spec.specs.Refusals.{outOfRange, notEachOnce, sheetRefusal}
@@ -30,8 +31,9 @@ use Rattle.stored_spec.specs.Rails.{rails, railsAt}
 use Rattle.cutting_spec.specs.Choice.{admissible}
 use Rattle.cutting_spec.specs.Compile.{widthsOf}
 use Rattle.cutting_spec.specs.Rows.{row, cascadeRows}
-use Rattle.stored_spec.specs.StoredForm.{recordCount, variable, cutByte, railByte, lastByte, cellCount, cellAt, sizeOf, rowsBefore, rowCount, recordFormed, cellFormed, recordsFormed, rowsFormed, wellFormed, member, stored}
-use Rattle.stored_spec.proofs.Promises.{rails-least, rails-at}
+use Rattle.stored_spec.specs.StoredForm.{recordCount, variable, cutByte, railByte, lastByte, cellCount, cellAt, sizeOf, rowsBefore, rowCount, recordFormed, cellFormed, cellFormedAs, recordsFormed, recordsFormedAs, rowsFormedAs, wellFormed, wellFormedAs, member, stored}
+use Rattle.stored_spec.specs.RowBytes.{twoBytes, rowValue, room, rowBytes}
+use Rattle.stored_spec.proofs.Promises.{few-outputs, rails-least, rails-at, length-rowBytes, row-kept}
 use Rattle.cutting_spec.proofs.StoredCuts.{stored-length, stored-variable, stored-cut, stored-rails, stored-last, record-count, member-bottom, cuts-fall, cuts-most, cell-count, cell-size, rows-at, rows-length, rows-total}
 use Rattle.cutting_spec.proofs.RailCounts.{width-at, layer-at}
 use Rattle.cutting_spec.proofs.RowRead.{row-small}
@@ -80,8 +82,11 @@ module _ (j : Job) (once : notEachOnce (j .n) (j .m) (j .order) ≡ false) (few 
   abbrev R : List ℕ
   R = stored j ws l
 
+  abbrev values : List ℕ
+  values = cascadeRows j f ls ws l
+
   abbrev bytes : List ℕ
-  bytes = cascadeRows j f ls ws l
+  bytes = rowBytes twoBytes values
 
   -- each record
   variable-at : (i : ℕ) → i < t j → variable R i ≡ varAt j (suc (t j - suc i))
@@ -139,7 +144,7 @@ module _ (j : Job) (once : notEachOnce (j .n) (j .m) (j .order) ≡ false) (few 
         stored-rails j ws l (t j) (t j - 1) (omega arith) ∙ ap (λ (h : ℕ). cond (member h l) (railsAt j ws h) 0) e
         ∙ ap (λ (b : Bool). cond b (railsAt j ws 0) 0) (member-bottom cuts) ∙ no-rails
 
-    module _ (k≤ : j .K ≤ 12) (l≤ : j .L ≤ 8) (fit : admissible j ws l ≡ true) where
+    module _ (k≤ : j .K ≤ 12) (l≤ : j .L ≤ 16) (fit : admissible j ws l ≡ true) where
       all-fit : allFit (j .K) (j .L) (cellsOf j ws l) ≡ true
       unfolding admissible
       all-fit = and-split _ (leb (rowTotal (cellsOf j ws l)) 32768) fit .0
@@ -158,18 +163,18 @@ module _ (j : Job) (once : notEachOnce (j .n) (j .m) (j .order) ≡ false) (few 
       within-list k h = omega (arith, cell-count j ws l cuts)
 
       cell-good : (k : ℕ) → k < cellCount R → cellFormed R k ≡ true
-      unfolding cellFormed
+      unfolding cellFormedAs
       cell-good k h =
           let p = within-list k h in
-          ap (fits 12 8) (cell-size j ws l cuts k p)
-          ∙ fits-more (j .K) (j .L) 12 8 (cellBetween j ws (getD l k 0) (getD l (suc k) 0)) k≤ l≤ (fit-at j ws (j .K) (j .L) l k all-fit p)
+          ap (fits 12 16) (cell-size j ws l cuts k p)
+          ∙ fits-more (j .K) (j .L) 12 16 (cellBetween j ws (getD l k 0) (getD l (suc k) 0)) k≤ l≤ (fit-at j ws (j .K) (j .L) l k all-fit p)
 
       whole : length R ≡ t j * 4
       unfolding stored
       whole = stored-length j ws l (t j)
 
       records-good : recordsFormed R ≡ true
-      unfolding recordsFormed
+      unfolding recordsFormedAs
       records-good =
           let n = record-count j ws l in
           let last : recordCount R - 1 ≡ t j - 1 = ap (λ (k : ℕ). k - 1) n in
@@ -210,40 +215,70 @@ module _ (j : Job) (once : notEachOnce (j .n) (j .m) (j .order) ≡ false) (few 
           rw (shl-shr u (ins j b)) at (row-small j once few out f a b (u * 2 ^ ins j b) top le x<))
           (λ e. pow-pos size)
 
-      cell-rows-good : (k : ℕ) → k < cellCount R → rowsFormed R bytes k ≡ true
-      unfolding rowsFormed
+      row-inside : (k i : ℕ) → suc k < length l → i < rows (sizeOf (cellAt R k)) → rowsBefore R k + i < length values
+      unfolding rowCount rowsBefore
+      row-inside k i p q =
+          let n = rows-length j f ls ws l cuts in
+          let h = sum-at (λ m. rows (sizeOf (cellAt R m))) (cellCount R) k (omega (arith, cell-count j ws l cuts)) in
+          omega (arith, n, h)
+
+      cell-rows-good : (k : ℕ) → k < cellCount R → rowsFormedAs twoBytes R bytes k ≡ true
+      unfolding rowsFormedAs
       cell-rows-good k h =
           let p = within-list k h in
           let size = cell-size j ws l cuts k p in
           let a = getD l k 0 in
           let b = getD l (suc k) 0 in
           let fall = cuts-fall cuts k p in
-          every-of (λ i. ltb (getD bytes (rowsBefore R k + i) 0) (2 ^ (sizeOf (cellAt R k) .outputs))) (rows (sizeOf (cellAt R k)))
+          every-of (λ i. ltb (rowValue twoBytes bytes (rowsBefore R k + i)) (2 ^ (sizeOf (cellAt R k) .outputs))) (rows (sizeOf (cellAt R k)))
           (λ i q.
           let q′ : i < rows (cellBetween j ws a b) = rw size at q in
-          lt-ltb (getD bytes (rowsBefore R k + i) 0) (2 ^ (sizeOf (cellAt R k) .outputs))
-          (rw (rows-at j f ls ws l cuts k i p q′, size) (row-good a b i (omega arith) (cuts-most cuts k))))
+          lt-ltb (rowValue twoBytes bytes (rowsBefore R k + i)) (2 ^ (sizeOf (cellAt R k) .outputs))
+          (let small = row-good a b i (omega arith) (cuts-most cuts k) in
+          let fits16 = few-outputs (cellBetween j ws a b) (fits-more (j .K) (j .L) 12 16 (cellBetween j ws a b) k≤ l≤ (fit-at j ws (j .K) (j .L) l k all-fit p)) in
+          let most : 2 ^ (cellBetween j ws a b .outputs) ≤ 2 ^ 16 = pow-mono fits16 in
+          let at = rows-at j f ls ws l cuts k i p q′ in
+          rw (row-kept twoBytes values (rowsBefore R k + i) (row-inside k i p q) (omega (arith, at)) ∙ at, size) small))
 
-      pub well-formed : wellFormed (stored j (widthsOf (layers j f)) l) (cascadeRows j f (layers j f) (widthsOf (layers j f)) l) ≡ true
-      unfolding wellFormed
+      -- a row's value fits in two bytes
+      pub values-small : (p : ℕ) → p < length (cascadeRows j f (layers j f) (widthsOf (layers j f)) l)
+          → getD (cascadeRows j f (layers j f) (widthsOf (layers j f)) l) p 0 < 2 ^ 16
+      unfolding rowCount rowsBefore
+      values-small p h =
+          let n = rows-length j f ls ws l cuts in
+          let r = in-part (λ m. rows (sizeOf (cellAt R m))) (cellCount R) p (omega (arith, n)) in
+          let k = r .part in
+          let q = within-list k (r .within) in
+          let a = getD l k 0 in
+          let b = getD l (suc k) 0 in
+          let fall = cuts-fall cuts k q in
+          let i< : r .place < rows (cellBetween j ws a b) = rw (cell-size j ws l cuts k q) at (r .below) in
+          let small = row-good a b (r .place) (omega arith) (cuts-most cuts k) in
+          let fits16 = few-outputs (cellBetween j ws a b) (fits-more (j .K) (j .L) 12 16 (cellBetween j ws a b) k≤ l≤ (fit-at j ws (j .K) (j .L) l k all-fit q)) in
+          let most : 2 ^ (cellBetween j ws a b .outputs) ≤ 2 ^ 16 = pow-mono fits16 in
+          let at = ap (λ (x : ℕ). getD values x 0) (r .at) ∙ rows-at j f ls ws l cuts k (r .place) q i< in
+          omega (arith, at)
+
+      pub well-formed : wellFormed (stored j (widthsOf (layers j f)) l) (rowBytes twoBytes (cascadeRows j f (layers j f) (widthsOf (layers j f)) l)) ≡ true
+      unfolding wellFormedAs
       well-formed =
-          and-join (and-join records-good (eq-eqb (length bytes) (rowCount R) (rows-length j f ls ws l cuts)))
-          (every-of (rowsFormed R bytes) (cellCount R) cell-rows-good)
+          and-join (and-join records-good (eq-eqb (length bytes) (room twoBytes (rowCount R)) (length-rowBytes twoBytes values ∙ ap (room twoBytes) (rows-length j f ls ws l cuts))))
+          (every-of (rowsFormedAs twoBytes R bytes) (cellCount R) cell-rows-good)
 
 -- what a job with numbers in range keeps to, and an accepted one
-in-limits : (n m k l : ℕ) → outOfRange n m k l ≡ false → (1 ≤ n) × (k ≤ 12) × (l ≤ 8)
+in-limits : (n m k l : ℕ) → outOfRange n m k l ≡ false → (1 ≤ n) × (k ≤ 12) × (l ≤ 16)
 unfolding outOfRange
 in-limits n m k l e =
-    let all = not-false (within 1 12 n && within 1 8 m && within 2 12 k && within 1 8 l) e in
-    let three = and-split (within 1 12 n && within 1 8 m && within 2 12 k) (within 1 8 l) all in
+    let all = not-false (within 1 12 n && within 1 8 m && within 2 12 k && within 1 16 l) e in
+    let three = and-split (within 1 12 n && within 1 8 m && within 2 12 k) (within 1 16 l) all in
     let two = and-split (within 1 12 n && within 1 8 m) (within 2 12 k) (three .0) in
     let one = and-split (within 1 12 n) (within 1 8 m) (two .0) in (
       leb-true 1 n (and-split (leb 1 n) (leb n 12) (one .0) .0),
       leb-true k 12 (and-split (leb 2 k) (leb k 12) (two .1) .1),
-      leb-true l 8 (and-split (leb 1 l) (leb l 8) (three .1) .1),
+      leb-true l 16 (and-split (leb 1 l) (leb l 16) (three .1) .1),
     )
 
-pub job-limits : (j : Job) (s : List ℕ) → sheetRefusal j s ≡ 0 → (1 ≤ j .n) × (j .K ≤ 12) × (j .L ≤ 8)
+pub job-limits : (j : Job) (s : List ℕ) → sheetRefusal j s ≡ 0 → (1 ≤ j .n) × (j .K ≤ 12) × (j .L ≤ 16)
 job-limits j s e =
     by-test (outOfRange (j .n) (j .m) (j .K) (j .L))
     (λ p. let z : _≡_ {A = ℕ} 0 1 = sym e ∙ given1 (j .n) (j .m) (j .K) (j .L) (j .order) s p in absurd (omega arith))
@@ -253,9 +288,19 @@ job-limits j s e =
 pub compiled-formed : (j : Job) (s : List ℕ) → sheetRefusal j s ≡ 0 → (l : List ℕ) → CutList (t j) l
     → admissible j (widthsOf (layers j (reduced j (table j s)))) l ≡ true
     → wellFormed (stored j (widthsOf (layers j (reduced j (table j s)))) l)
-    (cascadeRows j (reduced j (table j s)) (layers j (reduced j (table j s))) (widthsOf (layers j (reduced j (table j s)))) l)
+    (rowBytes twoBytes (cascadeRows j (reduced j (table j s)) (layers j (reduced j (table j s))) (widthsOf (layers j (reduced j (table j s)))) l))
     ≡ true
 compiled-formed j s e l cuts fit =
     let c : Accepted (j .n) (j .m) (j .order) s = job-accepted j s e in
     let (some, k≤, l≤) = job-limits j s e in
     well-formed j (c .order-whole) (c .inputs) (c .outputs) (reduced j (table j s)) l cuts (omega arith) k≤ l≤ fit
+
+-- and its rows have 16 bits
+pub compiled-small : (j : Job) (s : List ℕ) → sheetRefusal j s ≡ 0 → (l : List ℕ) → CutList (t j) l
+    → admissible j (widthsOf (layers j (reduced j (table j s)))) l ≡ true
+    → (p : ℕ) → p < length (cascadeRows j (reduced j (table j s)) (layers j (reduced j (table j s))) (widthsOf (layers j (reduced j (table j s)))) l)
+    → getD (cascadeRows j (reduced j (table j s)) (layers j (reduced j (table j s))) (widthsOf (layers j (reduced j (table j s)))) l) p 0 < 2 ^ 16
+compiled-small j s e l cuts fit =
+    let c : Accepted (j .n) (j .m) (j .order) s = job-accepted j s e in
+    let (some, k≤, l≤) = job-limits j s e in
+    values-small j (c .order-whole) (c .inputs) (c .outputs) (reduced j (table j s)) l cuts (omega arith) k≤ l≤ fit

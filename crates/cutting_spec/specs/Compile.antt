@@ -14,6 +14,7 @@ use Rattle.reduction_spec.specs.Merge.{reduced, refuse7}
 use Rattle.reduction_spec.specs.Diagram.{nodes, nodeWords}
 use Rattle.reduction_spec.specs.declared.Node.{Node}
 use Rattle.stored_spec.specs.Cells.{bitTotal}
+use Rattle.stored_spec.specs.RowBytes.{twoBytes, rowBytes}
 use Rattle.cutting_spec.specs.Cuts.{cellsOf}
 use Rattle.cutting_spec.specs.Choice.{chosen, refuse8}
 use Rattle.cutting_spec.specs.Rows.{cascadeRows}
@@ -26,6 +27,7 @@ pub record Made : Type 0 where
   pub nodes : List Node
   pub records : List ℕ
   pub rows : List ℕ
+  pub rowBytes : List ℕ
   pub cells : ℕ
   pub bits : ℕ
 
@@ -39,12 +41,14 @@ made j f₀ =
     let ls = layers j f in
     let ws = widthsOf ls in
     let cuts = chosen j ws in
+    let rows = cascadeRows j f ls ws cuts in
     record {
       widths = ws;
       cuts = cuts;
       nodes = nodes j f ls;
       records = stored j ws cuts;
-      rows = cascadeRows j f ls ws cuts;
+      rows = rows;
+      rowBytes = rowBytes twoBytes rows;
       cells = length (cellsOf j ws cuts);
       bits = bitTotal (cellsOf j ws cuts);
     }
@@ -85,7 +89,7 @@ module _ {A : Type 0} (held : List Node → List A) (nodes : List A) (records ro
         answer = accepted (totals j c);
         nodes = written nodes 0 (held (c .nodes));
         records = written records 0 (c .records);
-        rows = written rows 0 (c .rows);
+        rows = written rows 0 (c .rowBytes);
       }
 
   -- 9: node table shorter than the nodes. 10: record buffer under 4 x t. 11: row memory short
@@ -93,7 +97,7 @@ module _ {A : Type 0} (held : List Node → List A) (nodes : List A) (records ro
   lend j c =
       cond (ltb (length nodes) (length (held (c .nodes)))) (refusal 9)
       (cond (ltb (length records) (4 * t j)) (refusal 10)
-      (cond (ltb (length rows) (length (c .rows))) (refusal 11) (acceptance j c)))
+      (cond (ltb (length rows) (length (c .rowBytes))) (refusal 11) (acceptance j c)))
 
   -- f is the sheet's function: 7, 8, then what is lent
   unfoldable pub reduce : Job → List ℕ → CompiledAs A

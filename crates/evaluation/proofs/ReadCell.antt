@@ -12,6 +12,7 @@ use Rattle.laws.specs.Turns.{inTurn}
 use Rattle.laws.proofs.Cases.{by-test, cond-yes, cond-no, no-test}
 use Rattle.laws.proofs.Turns.{turns-ext, turns-rect, turns-idle}
 use Rattle.stored_spec.specs.Cells.{rows}
+use Rattle.stored_spec.specs.RowBytes.{twoBytes, rowValue}
 use Rattle.stored_spec.specs.StoredForm.{cellAt, sizeOf, rowsBefore}
 use Rattle.stored_spec.specs.Run.{railAfter}
 use Rattle.evaluation_spec.specs.RailSets.{Gathered, noneRead, isIn, withRow, agrees, mayRead, rowAt, readAt, gathered}
@@ -54,8 +55,8 @@ module _ (known w : ℕ) (R bytes : List ℕ) (k : ℕ) (s : List ℕ) where
         ≡ p .at + r * p .block + p .value + partOf (p .mask) (p .free) j =
         omega
         (arith, e .at, e .value, ap (λ (y : ℕ). r * y) (e .block), ap₂ (λ (m f : ℕ). partOf m f j) (e .mask) (e .free)) in
-        let z = getD bytes (p .at + r * p .block + p .value + partOf (p .mask) (p .free) j) 0 in
-        ap (λ (y : ℕ). withRow (getD bytes y 0) (getD bytes y 0 % 2 ^ cellAt R k .lower) g) place
+        let z = rowValue twoBytes bytes (p .at + r * p .block + p .value + partOf (p .mask) (p .free) j) in
+        ap (λ (y : ℕ). let x = rowValue twoBytes bytes y in withRow x (x % 2 ^ cellAt R k .lower) g) place
         ∙ ap (λ (y : ℕ). withRow z y g) (sym (ap (bitAnd z) (e .low) ∙ and-mask z (cellAt R k .lower)))
 
     may-read : (r a : ℕ) → a < 2 ^ n → mayRead known w (cellAt R k) s (r * 2 ^ n + a) ≡ (isIn s r && agrees known w is a)

@@ -1,4 +1,5 @@
 -- Laws of `src/gather.rt`.
 pub mod FewRails
+pub mod MovedSets
 pub mod Parts
 pub mod SetWords

@@ -5,13 +5,26 @@ use Prim.Native.Nat.{ℕ, zero, suc, _+_, _*_, _^_, _≤_}
 use mathlib.Core.Bool.{cond}
 use mathlib.Core.List.{List}
 use lib.Bits.{bitAnd, bitOr}
-use lib.ListN.{getD, set}
+use lib.ListN.{length, getD, set}
 use Rattle.laws.specs.Bits.{has}
 use Rattle.laws.specs.Turns.{inTurn}
-use Rattle.evaluation_spec.specs.RailSets.{Gathered, withRow}
+use Rattle.stored_spec.specs.RowBytes.{twoBytes, rowValue}
+use Rattle.evaluation_spec.specs.RailSets.{railWords, Gathered, withRow}
 pub use Rattle.evaluation.specs.declared.gather.Addresses.{Addresses}
 pub use Rattle.evaluation.specs.declared.gather.Seen.{Seen}
 pub use Rattle.evaluation.specs.declared.gather.Few.{Few}
+
+-- the words of a set of rail words, and those of the set without any
+unfoldable pub wordAt : List ℕ → ℕ → ℕ
+wordAt s q = getD s q 0
+
+unfoldable pub noWord : ℕ → ℕ
+noWord q = 0
+
+-- a set that has its rail words in its first n words
+pub record Within (n : ℕ) (s : List ℕ) : Type 0 where
+  pub long : length s ≡ railWords
+  pub rest : (q : ℕ) → n ≤ q → wordAt s q ≡ 0
 
 abbrev pub gatheredOf : Seen → List ℕ → Gathered
 gatheredOf s next = record { some = s .some; each = s .each; next = next }
@@ -27,11 +40,11 @@ partOf mask free (suc j) = bitAnd (partOf mask free j + mask + 1) free
 
 -- of row bytes, the row of filling j, which stands so far from first on; low are its lower rails
 unfoldable pub railRow : List ℕ → ℕ → ℕ → ℕ → ℕ → ℕ → Gathered → Gathered
-railRow bytes first mask free low j = let x = getD bytes (first + partOf mask free j) 0 in withRow x (bitAnd x low)
+railRow bytes first mask free low j = let x = rowValue twoBytes bytes (first + partOf mask free j) in withRow x (bitAnd x low)
 
 -- the row at place j from first on
 unfoldable pub plainRow : List ℕ → ℕ → ℕ → ℕ → Gathered → Gathered
-plainRow bytes first low j = let x = getD bytes (first + j) 0 in withRow x (bitAnd x low)
+plainRow bytes first low j = let x = rowValue twoBytes bytes (first + j) in withRow x (bitAnd x low)
 
 -- mask and free are together all bits of some number of inputs
 pub record Whole (mask free : ℕ) : Type 0 where

@@ -8,7 +8,7 @@ ghost use Rattle.laws.specs.Bits.{bit};
 ghost use Rattle.laws.specs.Lists.{puts, tab};
 ghost use Rattle.stored_spec.specs.StoredForm.{recordCount, cutByte, cellCount, cellAt, recordsFormed, wellFormed};
 ghost use Rattle.stored_spec.specs.Run.{outputsAfter};
-ghost use Rattle.evaluation_spec.specs.RailSets.{railSet, someOuts, eachOuts, toldOf, told};
+ghost use Rattle.evaluation_spec.specs.RailSets.{noRails, railSet, someOuts, eachOuts, toldOf, told};
 ghost use Rattle.evaluation.specs.Answer.{toldAt};
 ghost use Rattle.evaluation.specs.BegunCell.{moreFillings, endedBy, startOf, withVar, addressesOf, nextCell, begunWith, begunAt};
 use crate::gather::Addresses;
@@ -174,7 +174,7 @@ fn set_outputs(
         × (from ≡ startOf (now records) last)
         × (outs ≡ length (cellAt (now records) (endedBy (now records) last) .outs))
         × (rail ≡ cellAt (now records) (endedBy (now records) last) .lower)
-        × (outs + rail ≤ 8) ⌝ }
+        × (outs + rail ≤ 16) ⌝ }
     ensures { λ _. ⌜ (now (some .exit) ≡ outputsAfter (cellAt (now (records .entry)) (endedBy (now (records .entry)) last)) (now (some .entry)) x)
         × (now (each .exit) ≡ outputsAfter (cellAt (now (records .entry)) (endedBy (now (records .entry)) last)) (now (each .entry)) y) ⌝ }
 {
@@ -184,7 +184,8 @@ fn set_outputs(
     set_bits(records, from, last, outs + rail, x, y, some, each);
 }
 
-// Ends the cell c with the cut below record i: reads the rows that may be read and sets its outputs.
+// Ends the cell c with the cut below record i: reads the rows that may be read and sets its outputs. spare is a set without rail words, before
+// and after.
 fn end_cell(
     records: &[u8],
     rows: &[u8],
@@ -193,29 +194,31 @@ fn end_cell(
     i: usize,
     c: Begun,
     set: &mut RailSet,
+    spare: &mut RailSet,
     some: &mut [u8; MOST_OUTPUTS],
     each: &mut [u8; MOST_OUTPUTS],
 ) -> Begun
     requires { ⌜ (wellFormed (now records) (now rows) ≡ true) × (i < recordCount (now records)) × (cutByte (now records) i ≡ 1)
         × (c ≡ begunWith (now records) known word i)
-        × (now set ≡ railSet known word (now records) (now rows) (endedBy (now records) i)) ⌝ }
+        × (now set ≡ railSet known word (now records) (now rows) (endedBy (now records) i)) × (now spare ≡ noRails) ⌝ }
     ensures { λ r. ⌜ (r ≡ begunAt (now (records .entry)) known word (i + 1))
         × (now (set .exit) ≡ railSet known word (now (records .entry)) (now (rows .entry)) (suc (endedBy (now (records .entry)) i)))
+        × (now (spare .exit) ≡ noRails)
         × (now (some .entry) ≡ someOuts known word (now (records .entry)) (now (rows .entry)) (endedBy (now (records .entry)) i)
         → now (some .exit) ≡ someOuts known word (now (records .entry)) (now (rows .entry)) (suc (endedBy (now (records .entry)) i)))
         × (now (each .entry) ≡ eachOuts known word (now (records .entry)) (now (rows .entry)) (endedBy (now (records .entry)) i)
         → now (each .exit) ≡ eachOuts known word (now (records .entry)) (now (rows .entry)) (suc (endedBy (now (records .entry)) i))) ⌝ }
 {
     let rail = wide(records[i * 4 + 2]);
-    let seen = read_cell(rows, addresses(c, rail), set);
+    let seen = read_cell(rows, addresses(c, rail), set, spare);
     set_outputs(
         records,
         c.from,
         i,
         c.outs,
         rail,
-        wide(seen.some),
-        wide(seen.each),
+        wide16(seen.some),
+        wide16(seen.each),
         some,
         each,
     );
@@ -231,22 +234,24 @@ fn turn(
     i: usize,
     c: Begun,
     set: &mut RailSet,
+    spare: &mut RailSet,
     some: &mut [u8; MOST_OUTPUTS],
     each: &mut [u8; MOST_OUTPUTS],
 ) -> Begun
     requires { ⌜ (wellFormed (now records) (now rows) ≡ true) × (i < recordCount (now records)) × (known < 65536) × (word < 65536)
         × (c ≡ begunAt (now records) known word i)
-        × (now set ≡ railSet known word (now records) (now rows) (endedBy (now records) i))
+        × (now set ≡ railSet known word (now records) (now rows) (endedBy (now records) i)) × (now spare ≡ noRails)
         × (now some ≡ someOuts known word (now records) (now rows) (endedBy (now records) i))
         × (now each ≡ eachOuts known word (now records) (now rows) (endedBy (now records) i)) ⌝ }
     ensures { λ r. ⌜ (r ≡ begunAt (now (records .entry)) known word (i + 1))
         × (now (set .exit) ≡ railSet known word (now (records .entry)) (now (rows .entry)) (endedBy (now (records .entry)) (i + 1)))
+        × (now (spare .exit) ≡ noRails)
         × (now (some .exit) ≡ someOuts known word (now (records .entry)) (now (rows .entry)) (endedBy (now (records .entry)) (i + 1)))
         × (now (each .exit) ≡ eachOuts known word (now (records .entry)) (now (rows .entry)) (endedBy (now (records .entry)) (i + 1))) ⌝ }
 {
     let d = with_variable(c, wide(records[i * 4]), known, word);
     if records[i * 4 + 1] == 1 {
-        return end_cell(records, rows, known, word, i, d, set, some, each);
+        return end_cell(records, rows, known, word, i, d, set, spare, some, each);
     }
     d
 }
@@ -268,6 +273,7 @@ fn read_cells(
     let count = records.len() / 4;
     let mut set = [0u64; RAIL_WORDS];
     mark(&mut set, 0);
+    let mut spare = [0u64; RAIL_WORDS];
     let mut c = Begun {
         from: 0,
         at: 0,
@@ -280,7 +286,18 @@ fn read_cells(
     };
     let mut i = 0;
     while i < count {
-        c = turn(records, rows, known, word, i, c, &mut set, some, each);
+        c = turn(
+            records,
+            rows,
+            known,
+            word,
+            i,
+            c,
+            &mut set,
+            &mut spare,
+            some,
+            each,
+        );
         i += 1;
     }
 }

@@ -2,15 +2,18 @@
 ghost use mathlib.Core.Path.{_≡_};
 ghost use mathlib.Core.Bool.{true, false};
 ghost use mathlib.Core.List.{List};
-ghost use Prim.Native.Nat.{ℕ, _≤_, _<_, _+_, _*_, _^_};
+ghost use Prim.Native.Nat.{ℕ, _≤_, _<_, _+_, _*_, _/_, _^_};
 ghost use lib.Bits.{bitAnd};
 ghost use lib.ListN.{length};
 ghost use Rattle.laws.specs.Bits.{has};
+ghost use Rattle.laws.specs.Lists.{puts};
 ghost use Rattle.laws.specs.Turns.{inTurn};
-ghost use Rattle.evaluation_spec.specs.RailSets.{isIn, withRail, withRow, noneRead};
-ghost use Rattle.evaluation.specs.Agreeing.{gatheredOf, fewOf, Whole, railRow, plainRow, ofWord, ofSet};
+ghost use Rattle.stored_spec.specs.RowBytes.{twoBytes, rowValue};
+ghost use Rattle.evaluation_spec.specs.RailSets.{noRails, isIn, withRail, withRow, noneRead};
+ghost use Rattle.evaluation.specs.Agreeing.{wordAt, noWord, Within, gatheredOf, fewOf, Whole, railRow, plainRow, ofWord, ofSet};
 use evaluation_spec::RAIL_WORDS;
-use numbers::wide;
+use numbers::pair;
+use numbers::wide16;
 
 // A set of rail words: rail word r is bit r % 64 of word r / 64.
 pub type RailSet = [u64; RAIL_WORDS];
@@ -31,20 +34,20 @@ pub struct Addresses {
 
 // Of the rows read: the bits that some of them has, and those that each has.
 pub struct Seen {
-    pub some: u8,
-    pub each: u8,
+    pub some: u16,
+    pub each: u16,
 }
 
 // The same of rows whose rail words are below 64: the rail words are bits of one word.
 pub struct Few {
-    pub some: u8,
-    pub each: u8,
+    pub some: u16,
+    pub each: u16,
     pub rails: u64,
 }
 
 // The set with the rail word r.
 pub fn mark(set: &mut RailSet, r: usize)
-    requires { ⌜ r < 256 ⌝ }
+    requires { ⌜ r < 4096 ⌝ }
     ensures { λ _. ⌜ now (set .exit) ≡ withRail (now (set .entry)) r ⌝ }
 {
     let bit = 1 << (r % 64);
@@ -52,14 +55,23 @@ pub fn mark(set: &mut RailSet, r: usize)
 }
 
 // One row more.
-fn with_row(x: u8, low: usize, seen: Seen, next: &mut RailSet) -> Seen
+fn with_row(x: u16, low: usize, seen: Seen, next: &mut RailSet) -> Seen
+    requires { ⌜ low < 4096 ⌝ }
     ensures { λ r. ⌜ gatheredOf r (now (next .exit)) ≡ withRow x (bitAnd x low) (gatheredOf seen (now (next .entry))) ⌝ }
 {
-    mark(next, wide(x) & low);
+    mark(next, wide16(x) & low);
     Seen {
         some: seen.some | x,
         each: seen.each & x,
     }
+}
+
+// Row i, low byte first.
+fn row_at(rows: &[u8], i: usize) -> u16
+    requires { ⌜ i < length (now rows) / 2 ⌝ }
+    ensures { λ r. ⌜ r ≡ rowValue twoBytes (now (rows .entry)) i ⌝ }
+{
+    pair(rows[i * 2], rows[i * 2 + 1])
 }
 
 // The rows of one rail word, one for each filling of the bits of free. The next filling is the next larger number of these bits: the carry goes over
@@ -74,14 +86,14 @@ fn read_rail(
     seen: Seen,
     next: &mut RailSet,
 ) -> Seen
-    requires { ⌜ (first + free < length (now rows)) × (mask + free < 4096) ⌝ }
+    requires { ⌜ (first + free < length (now rows) / 2) × (mask + free < 4096) × (low < 4096) ⌝ }
     ensures { λ r. ⌜ gatheredOf r (now (next .exit)) ≡ inTurn count (railRow (now (rows .entry)) first mask free low) (gatheredOf seen (now (next .entry))) ⌝ }
 {
     let mut g = seen;
     let mut part = 0;
     let mut j = 0;
     while j < count {
-        g = with_row(rows[first + part], low, g, next);
+        g = with_row(row_at(rows, first + part), low, g, next);
         part = (part + mask + 1) & free;
         j += 1;
     }
@@ -98,7 +110,7 @@ fn read_few(
     low: usize,
     seen: Seen,
 ) -> Few
-    requires { ⌜ (first + free < length (now rows)) × (mask + free < 4096) × (low < 64) ⌝ }
+    requires { ⌜ (first + free < length (now rows) / 2) × (mask + free < 4096) × (low < 64) ⌝ }
     ensures { λ r. ⌜ ((s : List ℕ) → fewOf r s ≡ inTurn count (railRow (now (rows .entry)) first mask free low) (gatheredOf seen s)) ⌝ }
 {
     let mut some = seen.some;
@@ -107,10 +119,10 @@ fn read_few(
     let mut part = 0;
     let mut j = 0;
     while j < count {
-        let x = rows[first + part];
+        let x = row_at(rows, first + part);
         some = some | x;
         each = each & x;
-        rails = rails | (1 << (wide(x) & low));
+        rails = rails | (1 << (wide16(x) & low));
         part = (part + mask + 1) & free;
         j += 1;
     }
@@ -119,7 +131,7 @@ fn read_few(
 
 // The same where besides no input is known: the rows stand one after another.
 fn read_run(rows: &[u8], first: usize, count: usize, low: usize, seen: Seen) -> Few
-    requires { ⌜ (first + count ≤ length (now rows)) × (low < 64) ⌝ }
+    requires { ⌜ (first + count ≤ length (now rows) / 2) × (low < 64) ⌝ }
     ensures { λ r. ⌜ ((s : List ℕ) → fewOf r s ≡ inTurn count (plainRow (now (rows .entry)) first low) (gatheredOf seen s)) ⌝ }
 {
     let mut some = seen.some;
@@ -127,26 +139,27 @@ fn read_run(rows: &[u8], first: usize, count: usize, low: usize, seen: Seen) -> 
     let mut rails = 0u64;
     let mut j = 0;
     while j < count {
-        let x = rows[first + j];
+        let x = row_at(rows, first + j);
         some = some | x;
         each = each & x;
-        rails = rails | (1 << (wide(x) & low));
+        rails = rails | (1 << (wide16(x) & low));
         j += 1;
     }
     Few { some, each, rails }
 }
 
-// The same where besides no rails lie below. The loop touches bytes alone, so that it runs sixteen at a time.
+// The same where besides no rails lie below. The loop has no exit and touches rows alone, so that it is made for many rows at once.
 fn read_all(rows: &[u8], first: usize, count: usize, seen: Seen) -> Few
-    requires { ⌜ (first + count ≤ length (now rows)) × (1 ≤ count) ⌝ }
+    requires { ⌜ (first + count ≤ length (now rows) / 2) × (1 ≤ count) ⌝ }
     ensures { λ r. ⌜ ((s : List ℕ) → fewOf r s ≡ inTurn count (plainRow (now (rows .entry)) first 0) (gatheredOf seen s)) ⌝ }
 {
     let mut some = seen.some;
     let mut each = seen.each;
     let mut j = 0;
     while j < count {
-        some = some | rows[first + j];
-        each = each & rows[first + j];
+        let row = row_at(rows, first + j);
+        some = some | row;
+        each = each & row;
         j += 1;
     }
     Few {
@@ -166,7 +179,7 @@ fn read_either(
     low: usize,
     seen: Seen,
 ) -> Few
-    requires { ⌜ (first + free < length (now rows)) × Whole mask free × (low < 64) ⌝ }
+    requires { ⌜ (first + free < length (now rows) / 2) × Whole mask free × (low < 64) ⌝ }
     ensures { λ r. ⌜ ((s : List ℕ) → fewOf r s ≡ inTurn count (railRow (now (rows .entry)) first mask free low) (gatheredOf seen s)) ⌝ }
 {
     if (mask == 0) & (count == free + 1) {
@@ -189,7 +202,7 @@ fn read_one(
     seen: Seen,
     next: &mut RailSet,
 ) -> Seen
-    requires { ⌜ (first + free < length (now rows)) × Whole mask free ⌝ }
+    requires { ⌜ (first + free < length (now rows) / 2) × Whole mask free × (low < 4096) ⌝ }
     ensures { λ r. ⌜ gatheredOf r (now (next .exit)) ≡ inTurn count (railRow (now (rows .entry)) first mask free low) (gatheredOf seen (now (next .entry))) ⌝ }
 {
     if low < 64 {
@@ -220,8 +233,8 @@ fn read_word(
     seen: Seen,
     next: &mut RailSet,
 ) -> Seen
-    requires { ⌜ ((b : ℕ) → b < 64 → has word b ≡ true → base + b * p .block + (p .value + p .free) < length (now rows))
-        × Whole (p .mask) (p .free) × (base < 2 ^ 30) × (p .block ≤ 4096) ⌝ }
+    requires { ⌜ ((b : ℕ) → b < 64 → has word b ≡ true → base + b * p .block + (p .value + p .free) < length (now rows) / 2)
+        × Whole (p .mask) (p .free) × (base < 2 ^ 30) × (p .block ≤ 4096) × (p .low < 4096) ⌝ }
     ensures { λ r. ⌜ gatheredOf r (now (next .exit)) ≡ ofWord (now (rows .entry)) p word base (gatheredOf seen (now (next .entry))) ⌝ }
 {
     let mut g = seen;
@@ -238,31 +251,89 @@ fn read_word(
     g
 }
 
-// The rows of all rail words of the set.
-fn read_set(rows: &[u8], p: Addresses, set: &RailSet, next: &mut RailSet) -> Seen
-    requires { ⌜ ((r : ℕ) → r < 256 → isIn (now set) r ≡ true → p .at + r * p .block + (p .value + p .free) < length (now rows))
-        × Whole (p .mask) (p .free) × (p .at ≤ 32768) × (p .block ≤ 4096) × (p .words ≤ 4) ⌝ }
-    ensures { λ r. ⌜ gatheredOf r (now (next .exit)) ≡ ofSet (now (rows .entry)) p (now (set .entry)) (p .words) (record { some = 0; each = 255; next = now (next .entry) }) ⌝ }
+// The rows of all rail words of a set that is one word, where the rail words below are one word too: no set in memory is needed.
+fn gather_word(rows: &[u8], p: Addresses, word: u64) -> Few
+    requires { ⌜ ((b : ℕ) → b < 64 → has word b ≡ true → p .at + b * p .block + (p .value + p .free) < length (now rows) / 2)
+        × Whole (p .mask) (p .free) × (p .at ≤ 32768) × (p .block ≤ 4096) × (p .low < 64) ⌝ }
+    ensures { λ r. ⌜ ((s : List ℕ) → fewOf r s ≡ ofWord (now (rows .entry)) p word (p .at) (record { some = 0; each = 65535; next = s })) ⌝ }
 {
-    let mut g = Seen { some: 0, each: 255 };
+    let mut some = 0u16;
+    let mut each = 65535u16;
+    let mut rails = 0u64;
+    let mut left = word;
+    let mut b = 0usize;
+    while left != 0 {
+        let skipped = lowest(left);
+        let rail = b + skipped;
+        let few = read_either(
+            rows,
+            p.at + rail * p.block + p.value,
+            p.mask,
+            p.free,
+            p.count,
+            p.low,
+            Seen { some, each },
+        );
+        some = few.some;
+        each = few.each;
+        rails = rails | few.rails;
+        left = (left >> skipped) / 2;
+        b = rail + 1;
+    }
+    Few { some, each, rails }
+}
+
+// The rows of all rail words of the set, which becomes empty where it had them.
+fn read_set(rows: &[u8], p: Addresses, set: &mut RailSet, next: &mut RailSet) -> Seen
+    requires { ⌜ ((r : ℕ) → r < 4096 → isIn (now set) r ≡ true → p .at + r * p .block + (p .value + p .free) < length (now rows) / 2)
+        × Whole (p .mask) (p .free) × (p .at ≤ 32768) × (p .block ≤ 4096) × (p .words ≤ 64) × (p .low < 4096) ⌝ }
+    ensures { λ r. ⌜ (gatheredOf r (now (next .exit)) ≡ ofSet (now (rows .entry)) p (now (set .entry)) (p .words) (record { some = 0; each = 65535; next = now (next .entry) }))
+        × (now (set .exit) ≡ puts (p .words) noWord (now (set .entry))) ⌝ }
+{
+    let mut g = Seen {
+        some: 0,
+        each: 65535,
+    };
     let mut q = 0;
     while q < p.words {
-        g = read_word(rows, p, p.at + q * 64 * p.block, set[q], g, next);
+        let word = set[q];
+        set[q] = 0;
+        g = read_word(rows, p, p.at + q * 64 * p.block, word, g, next);
         q += 1;
     }
     g
 }
 
-// The rows of the cell that may be read. The set of the rail words above it becomes that of those below it.
-pub fn read_cell(rows: &[u8], p: Addresses, set: &mut RailSet) -> Seen
-    requires { ⌜ ((r : ℕ) → r < 256 → isIn (now set) r ≡ true → p .at + r * p .block + (p .value + p .free) < length (now rows))
-        × Whole (p .mask) (p .free) × (p .at ≤ 32768) × (p .block ≤ 4096) × (p .words ≤ 4) ⌝ }
-    ensures { λ r. ⌜ gatheredOf r (now (set .exit)) ≡ ofSet (now (rows .entry)) p (now (set .entry)) (p .words) noneRead ⌝ }
+// Moves the first n words of a set to another. Only words in use are moved: a set has room for 64, and most cells need one.
+fn move_words(from: &mut RailSet, to: &mut RailSet, n: usize)
+    requires { ⌜ n ≤ 64 ⌝ }
+    ensures { λ _. ⌜ (now (to .exit) ≡ puts n (wordAt (now (from .entry))) (now (to .entry))) × (now (from .exit) ≡ puts n noWord (now (from .entry))) ⌝ }
 {
-    let above = *set;
-    let none = [0u64; RAIL_WORDS];
-    let mut next = none;
-    let seen = read_set(rows, p, &above, &mut next);
-    *set = next;
+    let mut q = 0;
+    while q < n {
+        to[q] = from[q];
+        from[q] = 0;
+        q += 1;
+    }
+}
+
+// The rows of the cell that may be read. The set of the rail words above it becomes that of those below it; spare is empty before and after.
+pub fn read_cell(rows: &[u8], p: Addresses, set: &mut RailSet, spare: &mut RailSet) -> Seen
+    requires { ⌜ ((r : ℕ) → r < 4096 → isIn (now set) r ≡ true → p .at + r * p .block + (p .value + p .free) < length (now rows) / 2)
+        × Whole (p .mask) (p .free) × (p .at ≤ 32768) × (p .block ≤ 4096) × (p .words ≤ 64) × (p .low < 4096)
+        × Within (p .words) (now set) × (now spare ≡ noRails) ⌝ }
+    ensures { λ r. ⌜ (gatheredOf r (now (set .exit)) ≡ ofSet (now (rows .entry)) p (now (set .entry)) (p .words) noneRead)
+        × (now (spare .exit) ≡ noRails) ⌝ }
+{
+    if (p.words == 1) & (p.low < 64) {
+        let few = gather_word(rows, p, set[0]);
+        set[0] = few.rails;
+        return Seen {
+            some: few.some,
+            each: few.each,
+        };
+    }
+    let seen = read_set(rows, p, set, spare);
+    move_words(spare, set, p.low / 64 + 1);
     seen
 }

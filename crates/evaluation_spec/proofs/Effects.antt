@@ -10,6 +10,7 @@ use lib.ListN.{getD}
 use Rattle.laws.specs.Bits.{bit}
 use Rattle.laws.proofs.Cases.{same-test, no-test}
 use Rattle.sheet_spec.specs.Job.{outputByte}
+use Rattle.stored_spec.specs.RowBytes.{twoBytes, rowValue}
 use Rattle.stored_spec.specs.StoredForm.{member, recordCount, variable, cellCount, cellAt, recordsFormed}
 use Rattle.stored_spec.specs.Run.{Running, run}
 use Rattle.stored_spec.proofs.FormedCells.{inputs-small}
@@ -29,7 +30,7 @@ ran-same R bytes w v o e = ap (λ (s : Running). getD (s .outputs) o 2) e
 -- bits above 11 have no effect on what is emitted
 pub emits-same : (R bytes : List ℕ) → recordsFormed R ≡ true → (w v : ℕ) → SameInputs w v → (o : ℕ) → emits R bytes w o ≡ emits R bytes v o
 emits-same R bytes formed w v h o =
-    ran-same R bytes w v o (same-run R bytes w v (cellCount R) (λ c l. same-agree (cellAt R c .ins) w v (inputs-small R formed c) h))
+    ran-same R bytes w v o (same-run (rowValue twoBytes bytes) R w v (cellCount R) (λ c l. same-agree (cellAt R c .ins) w v (inputs-small R formed c) h))
 
 -- every input is known
 pub all-known : (R bytes : List ℕ) → recordsFormed R ≡ true → (known w : ℕ) → ((i : ℕ) → i < 12 → bit known i ≡ 1)

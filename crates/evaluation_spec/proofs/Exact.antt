@@ -16,7 +16,7 @@ use Rattle.laws.proofs.Bits.{bit-lt, flag-has}
 use Rattle.laws.proofs.Masks.{not-both}
 use Rattle.stored_spec.specs.Cells.{rows}
 use Rattle.stored_spec.specs.StoredForm.{member, cellCount, cellAt, sizeOf, recordsFormed, wellFormed}
-use Rattle.stored_spec.specs.Run.{railAfter, run}
+use Rattle.stored_spec.specs.Run.{railAfter, run, runBy}
 use Rattle.stored_spec.proofs.ReadWriteCases.{formed-records}
 use Rattle.evaluation_spec.specs.Emits.{emits}
 use Rattle.evaluation_spec.specs.Known.{certain}
@@ -85,7 +85,7 @@ module _ (known w : ℕ) (R bytes : List ℕ) (formed : recordsFormed R ≡ true
   unfolding gathered readAt
   some-bits k e = some-has (readable k) (row k) (λ i. railAfter (cellAt R k) (row k i)) e (rowsAt k)
 
-  each-bits : (k e : ℕ) → e < 8 → has (gatheredAt k .each) e ≡ every (rowsAt k) (λ i. not (readable k i) || has (row k i) e)
+  each-bits : (k e : ℕ) → e < 16 → has (gatheredAt k .each) e ≡ every (rowsAt k) (λ i. not (readable k i) || has (row k i) e)
   unfolding gathered readAt
   each-bits k e l = each-has (readable k) (row k) (λ i. railAfter (cellAt R k) (row k i)) e l (rowsAt k)
 
@@ -129,7 +129,7 @@ module _ (known w : ℕ) (R bytes : List ℕ) (formed : recordsFormed R ≡ true
         let (a, b) = and-split (readable k i) (has (row k i) at) p in
         emitting i 1 a (bit-is (row k i) at true b)
 
-    within : at < 8
+    within : at < 16
     within = omega (arith, s .within, outputs-few known w R bytes formed k l)
 
     all-have : has (gatheredAt k .each) at ≡ true → (i : ℕ) → i < rowsAt k → readable k i ≡ true → has (row k i) at ≡ true
@@ -188,7 +188,7 @@ module _ (known w : ℕ) (R bytes : List ℕ) (formed : recordsFormed R ≡ true
         (λ z. emitting-kept 0 (f (sym each-kept ∙ z)))
 
   all-tell : (o : ℕ) → o < 8 → (k : ℕ) → k ≤ cellCount R → Tells k o
-  unfolding run someOuts eachOuts
+  unfolding runBy someOuts eachOuts
   all-tell o h zero l =
       lacks (getD-replicate {A = ℕ} 8 o 2 2 h) (getD-replicate {A = ℕ} 8 o 2 2 h) (λ v. getD-replicate {A = ℕ} 8 o 2 2 h)
   all-tell o h (suc k) l =

@@ -18,7 +18,6 @@ use Rattle.laws.proofs.Cases.{by-less, by-equal, cond-both, same-test}
 use Rattle.laws.proofs.Tests.{every-at}
 use Rattle.laws.proofs.Bits.{has-or, has-and, has-power}
 use Rattle.laws.proofs.Masks.{has-zero}
-use Rattle.sheet_spec.specs.Limits.{rowValues}
 use Rattle.evaluation_spec.specs.RailSets.{railWords, noRails, isIn, withRail, Gathered, noneRead, withRow}
 
 -- the set without rail words; with one more
@@ -35,7 +34,7 @@ pub with-length : (s : List ℕ) (r : ℕ) → length (withRail s r) ≡ length 
 unfolding withRail
 with-length s r = length-set s (r / 64) _
 
-pub in-with : (s : List ℕ) (r q : ℕ) → length s ≡ railWords → r < rowValues → isIn (withRail s r) q ≡ (isIn s q || eqb q r)
+pub in-with : (s : List ℕ) (r q : ℕ) → length s ≡ railWords → r < 4096 → isIn (withRail s r) q ≡ (isIn s q || eqb q r)
 unfolding isIn withRail
 in-with s r q e l =
     let v = bitOr (getD s (r / 64) 0) (2 ^ (r % 64)) in
@@ -70,9 +69,9 @@ module _ (t : ℕ → Bool) (f r : ℕ → ℕ) where
       by false = sym (or-false _)
 
   -- bits that each row read has
-  pub each-has : (e : ℕ) → e < 8 → (n : ℕ) → has (readIn n .each) e ≡ every n (λ i. not (t i) || has (f i) e)
+  pub each-has : (e : ℕ) → e < 16 → (n : ℕ) → has (readIn n .each) e ≡ every n (λ i. not (t i) || has (f i) e)
   unfolding withRow
-  each-has e l zero = every-at (has 255) 8 refl e l
+  each-has e l zero = every-at (has 65535) 16 refl e l
   each-has e l (suc n) = by (t n) ∙ ap (λ (b : Bool). b && (not (t n) || has (f n) e)) (each-has e l n)
     where
       by : (b : Bool) → has (cond b (withRow (f n) (r n) (readIn n)) (readIn n) .each) e ≡ (has (readIn n .each) e && (not b || has (f n) e))
@@ -86,7 +85,7 @@ module _ (t : ℕ → Bool) (f r : ℕ → ℕ) where
       cond-both (λ (g : Gathered). length (g .next) ≡ railWords) (t n) (with-length (readIn n .next) (r n) ∙ next-length n) (next-length n)
 
   -- the lower rails of the rows read
-  pub next-has : ((i : ℕ) → r i < rowValues) → (q n : ℕ) → isIn (readIn n .next) q ≡ any n (λ i. t i && eqb q (r i))
+  pub next-has : ((i : ℕ) → r i < 4096) → (q n : ℕ) → isIn (readIn n .next) q ≡ any n (λ i. t i && eqb q (r i))
   unfolding withRow
   next-has small q zero = none-in q
   next-has small q (suc n) = by (t n) ∙ ap (λ (b : Bool). b || (t n && eqb q (r n))) (next-has small q n)

@@ -13,6 +13,7 @@ use Rattle.laws.proofs.Cases.{by-test, cond-yes, cond-no, cond-both, no-test}
 use Rattle.laws.proofs.Tests.{every-of, every-at, any-of, any-none, any-at, any-out}
 use Rattle.laws.proofs.Bits.{bit-lt}
 use Rattle.laws.proofs.Masks.{not-both}
+use Rattle.stored_spec.specs.RowBytes.{twoBytes, rowValue}
 use Rattle.stored_spec.specs.StoredForm.{member, cellCount, cellAt, recordsFormed}
 use Rattle.stored_spec.specs.Run.{address, run}
 use Rattle.stored_spec.proofs.FormedCells.{inputs-small}
@@ -80,7 +81,7 @@ module _ (R bytes : List ℕ) (formed : recordsFormed R ≡ true) (k v u : ℕ) 
   -- the run up to cell k is that of v
   pub mixed-run : run R bytes mixed k ≡ run R bytes v k
   mixed-run =
-      same-run R bytes mixed v k
+      same-run (rowValue twoBytes bytes) R mixed v k
       (λ j l.
       agree-of (cellAt R j .ins) mixed v
       (λ i e. mixed-used i (below-at 12 (cellAt R j .ins) i (inputs-small R formed j) e) j l e))

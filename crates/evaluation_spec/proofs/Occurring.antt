@@ -14,16 +14,17 @@ use borrow.Author.Tests.{eqb-true, eq-eqb}
 use Rattle.laws.specs.Tests.{any}
 use Rattle.laws.proofs.Cases.{and-split, and-join}
 use Rattle.laws.proofs.Tests.{every-at, any-of, any-at}
-use Rattle.sheet_spec.specs.Limits.{rowValues}
 use Rattle.stored_spec.specs.Cells.{rows}
-use Rattle.stored_spec.specs.StoredForm.{cellCount, cellAt, sizeOf, cellFormed, recordsFormed}
-use Rattle.stored_spec.specs.Run.{Running, address, rowPlace, outputsAfter, railAfter, run, ranOne}
+use Rattle.stored_spec.specs.RowBytes.{twoBytes, rowValue}
+use Rattle.stored_spec.specs.StoredForm.{cellCount, cellAt, sizeOf, cellFormedAs, recordsFormed}
+use Rattle.stored_spec.specs.Run.{Running, address, rowPlace, outputsAfter, railAfter, run, runBy, ranOneBy}
 use Rattle.stored_spec.proofs.CellSizes.{few-outputs}
 use Rattle.stored_spec.proofs.StoredParts.{records-have}
 use Rattle.stored_spec.proofs.FormedCells.{inputs-small, address-lt}
 use Rattle.stored_spec.proofs.SameRuns.{kept-inputs, rail-within}
 use Rattle.stored_spec.proofs.OneCell.{once-in}
 use Rattle.evaluation_spec.specs.RailSets.{railWords, noRails, isIn, withRail, agrees, mayRead, rowAt, readAt, gathered, railSet}
+use Rattle.stored_spec.proofs.LowerRails.{few-lower}
 use Rattle.evaluation_spec.proofs.Words.{Fills, address-from, gather-lt, scatter, scatter-gathers, scatter-fills, fills-agrees}
 use Rattle.evaluation_spec.proofs.Mixed.{mixed, mixed-small, mixed-fills, mixed-run, mixed-address}
 use Rattle.evaluation_spec.proofs.Gathering.{none-in, in-with, next-has}
@@ -33,9 +34,9 @@ first-in : (r : ℕ) → isIn (withRail noRails 0) r ≡ eqb r 0
 first-in r = in-with noRails 0 r (length-replicate {A = ℕ} railWords 0) (omega arith) ∙ ap (λ (b : Bool). b || eqb r 0) (none-in r)
 
 module _ (known w : ℕ) (R bytes : List ℕ) (formed : recordsFormed R ≡ true) where
-  pub outputs-few : (k : ℕ) → k < cellCount R → length (cellAt R k .outs) + cellAt R k .lower ≤ 8
-  unfolding sizeOf cellFormed
-  outputs-few k l = few-outputs (sizeOf (cellAt R k)) (every-at (cellFormed R) (cellCount R) (records-have R formed .cells) k l)
+  pub outputs-few : (k : ℕ) → k < cellCount R → length (cellAt R k .outs) + cellAt R k .lower ≤ 16
+  unfolding sizeOf cellFormedAs
+  outputs-few k l = few-outputs (sizeOf (cellAt R k)) (every-at (cellFormedAs twoBytes R) (cellCount R) (records-have twoBytes R formed .cells) k l)
 
   -- the row of cell k that the word v reads, by its number in the cell
   abbrev pub readBy : ℕ → ℕ → ℕ
@@ -49,22 +50,22 @@ module _ (known w : ℕ) (R bytes : List ℕ) (formed : recordsFormed R ≡ true
   mayReadAt k i = mayRead known w (cellAt R k) (railSet known w R bytes k) i
 
   next-rail : (v k : ℕ) → run R bytes v (suc k) .rail ≡ railBelow k (readBy v k)
-  unfolding run ranOne rowPlace rowAt
+  unfolding runBy ranOneBy rowPlace rowAt
   next-rail v k = refl
 
   pub next-outputs : (v k : ℕ) → run R bytes v (suc k) .outputs
       ≡ outputsAfter (cellAt R k) (run R bytes v k .outputs) (rowAt known w R bytes k (readBy v k))
-  unfolding run ranOne rowPlace rowAt
+  unfolding runBy ranOneBy rowPlace rowAt
   next-outputs v k = refl
 
   pub read-within : (v k : ℕ) → k < cellCount R → readBy v k < rows (sizeOf (cellAt R k))
   unfolding rows sizeOf
-  read-within v k l = address-lt (cellAt R k .upper) (run R bytes v k .rail) (cellAt R k .ins) v (rail-within R formed bytes v k l)
+  read-within v k l = address-lt (cellAt R k .upper) (run R bytes v k .rail) (cellAt R k .ins) v (rail-within R formed (rowValue twoBytes bytes) v k l)
 
-  below-small : (k : ℕ) → k < cellCount R → (i : ℕ) → railBelow k i < rowValues
+  below-small : (k : ℕ) → k < cellCount R → (i : ℕ) → railBelow k i < 4096
   unfolding railAfter
   below-small k l i =
-      let m : 2 ^ cellAt R k .lower ≤ 256 = pow-mono {j = 8} (omega (arith, outputs-few k l)) in
+      let m : 2 ^ cellAt R k .lower ≤ 4096 = pow-mono {j = 12} (few-lower R formed k l) in
       omega (arith, mod-lt (rowAt known w R bytes k i) (pow-pos (cellAt R k .lower)))
 
   -- the rail words below cell k are those below the rows that may be read
@@ -86,7 +87,7 @@ module _ (known w : ℕ) (R bytes : List ℕ) (formed : recordsFormed R ≡ true
 
   -- the rail word of a filling is in the set
   pub set-has : (v k : ℕ) → k < cellCount R → Fills known w v → isIn (railSet known w R bytes k) (run R bytes v k .rail) ≡ true
-  unfolding railSet run
+  unfolding railSet runBy
   set-has v zero l f = first-in 0
   set-has v (suc k) l f =
       let before : k < cellCount R = omega arith in
@@ -142,7 +143,7 @@ module _ (known w : ℕ) (R bytes : List ℕ) (formed : recordsFormed R ≡ true
 
   -- a rail word of the set occurs
   pub occurs : (k : ℕ) → k < cellCount R → (r : ℕ) → isIn (railSet known w R bytes k) r ≡ true → Reaches k r
-  unfolding railSet run
+  unfolding railSet runBy
   occurs zero l r e =
       record {
         word = w % 4096;
@@ -157,7 +158,7 @@ module _ (known w : ℕ) (R bytes : List ℕ) (formed : recordsFormed R ≡ true
       reached k i r (reads-back k before (occurs k before) i a) (sym (eqb-true r (railBelow k i) b))
 
   pub rails-small : (k : ℕ) → k < cellCount R → (r : ℕ) → isIn (railSet known w R bytes k) r ≡ true → r < 2 ^ cellAt R k .upper
-  rails-small k l r e = let v = occurs k l r e in omega (arith, v .rail, rail-within R formed bytes (v .word) k l)
+  rails-small k l r e = let v = occurs k l r e in omega (arith, v .rail, rail-within R formed (rowValue twoBytes bytes) (v .word) k l)
 
   -- a row that may be read is read by a filling
   pub row-reached : (k : ℕ) → k < cellCount R → (i : ℕ) → mayRead known w (cellAt R k) (railSet known w R bytes k) i ≡ true → ReadsRow k i

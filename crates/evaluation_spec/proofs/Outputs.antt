@@ -14,8 +14,9 @@ use Rattle.laws.specs.Bits.{bit}
 use Rattle.laws.proofs.Cases.{by-test, or-split}
 use Rattle.laws.proofs.Bits.{bit-lt}
 use Rattle.laws.proofs.Masks.{not-both}
+use Rattle.stored_spec.specs.RowBytes.{twoBytes, rowValue}
 use Rattle.stored_spec.specs.StoredForm.{member, StoredCell, cellCount, cellAt}
-use Rattle.stored_spec.specs.Run.{rowPlace, setOutputs, outputsAfter, run, ranOne}
+use Rattle.stored_spec.specs.Run.{rowPlace, setOutputs, outputsAfter, run, runBy, ranOneBy}
 use Rattle.stored_spec.proofs.Runs.{set-length}
 use Rattle.evaluation_spec.specs.Emits.{emits}
 
@@ -73,16 +74,16 @@ after-length c outs x = set-length outs (c .outs) (x / 2 ^ c .lower)
 module _ (R bytes : List ℕ) (w : ℕ) where
   -- the row that cell k reads
   abbrev rowOf : ℕ → ℕ
-  rowOf k = getD bytes (rowPlace R k (run R bytes w k .rail) w) 0
+  rowOf k = rowValue twoBytes bytes (rowPlace R k (run R bytes w k .rail) w)
 
   pub run-length : (k : ℕ) → length (run R bytes w k .outputs) ≡ 8
-  unfolding run ranOne
+  unfolding runBy ranOneBy
   run-length zero = length-replicate {A = ℕ} 8 2
   run-length (suc k) = after-length (cellAt R k) (run R bytes w k .outputs) (rowOf k) ∙ run-length k
 
   -- it is 0, 1 or not set
   run-small : (o : ℕ) → o < 8 → (k : ℕ) → getD (run R bytes w k .outputs) o 2 < 3
-  unfolding run ranOne
+  unfolding runBy ranOneBy
   run-small o l zero = let e = getD-replicate {A = ℕ} 8 o 2 2 l in omega arith
   run-small o l (suc k) =
       let before = run-small o l k in
@@ -98,7 +99,7 @@ module _ (R bytes : List ℕ) (w : ℕ) where
 
   -- not set where no cell has it
   run-lacks : (o : ℕ) → o < 8 → (k : ℕ) → ((c : ℕ) → c < k → member o (cellAt R c .outs) ≡ false) → getD (run R bytes w k .outputs) o 2 ≡ 2
-  unfolding run ranOne
+  unfolding runBy ranOneBy
   run-lacks o l zero h = getD-replicate {A = ℕ} 8 o 2 2 l
   run-lacks o l (suc k) h =
       kept-output (cellAt R k) o (h k (omega arith)) (run R bytes w k .outputs) (rowOf k) ∙ run-lacks o l k (λ c p. h c (omega arith))

@@ -8,15 +8,16 @@ use lib.Bits.{bitAnd, bitOr}
 use lib.ListN.{length, getD, set, replicate}
 use Rattle.laws.specs.Bits.{has}
 use Rattle.laws.specs.Turns.{inTurn}
-use Rattle.sheet_spec.specs.Limits.{rowValues}
+use Rattle.sheet_spec.specs.Limits.{largestInputs, rowValues}
 use Rattle.stored_spec.specs.Cells.{rows}
+use Rattle.stored_spec.specs.RowBytes.{twoBytes, rowValue}
 use Rattle.stored_spec.specs.StoredForm.{StoredCell, cellCount, cellAt, sizeOf, rowsBefore}
 use Rattle.stored_spec.specs.Run.{address, outputsAfter, railAfter, unset}
 use Rattle.evaluation_spec.specs.Known.{unknown}
 
--- A set of rail words as bits: rail word r is bit r % 64 of word r / 64. Rails are outputs of the cell above, so rail words are as few as values of a row
+-- A set of rail words as bits: rail word r is bit r % 64 of word r / 64. Rails are inputs of the cell below, so rail words are as few as its rows may be
 abbrev pub railWords : ℕ
-railWords = rowValues / 64
+railWords = 2 ^ largestInputs / 64
 
 abbrev pub noRails : List ℕ
 noRails = replicate railWords 0
@@ -56,7 +57,7 @@ module _ (known w : ℕ) where
   module _ (R bytes : List ℕ) where
     -- row i of cell k
     unfoldable pub rowAt : ℕ → ℕ → ℕ
-    rowAt k i = getD bytes (rowsBefore R k + i) 0
+    rowAt k i = rowValue twoBytes bytes (rowsBefore R k + i)
 
     -- row i of cell k read, where it may be
     unfoldable pub readAt : ℕ → List ℕ → ℕ → Gathered → Gathered

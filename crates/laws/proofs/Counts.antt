@@ -2,12 +2,12 @@
 -- Assumes nothing.
 use mathlib.Core.Path.{_≡_, refl, sym, _∙_, ap, ap₂}
 use mathlib.Core.Bool.{Bool, true, false, cond}
-use Prim.Native.Nat.{ℕ, zero, suc, _+_, _*_, _<_, _≤_}
+use Prim.Native.Nat.{ℕ, zero, suc, _+_, _-_, _*_, _<_, _≤_}
 use native.Mathlib.Nat.{not-suc-le-zero, zero-mul, suc-mul}
 use native.Mathlib.Numerals.{add-one}
 use native.Mathlib.Omega.{arith}
 use Rattle.laws.specs.Tests.{count, sum}
-use Rattle.laws.proofs.Cases.{by-test, last-or-below, cond-both}
+use Rattle.laws.proofs.Cases.{by-test, by-less, last-or-below, cond-both}
 
 module _ (f : ℕ → Bool) where
   pub count-next : (i : ℕ) → count (i + 1) f ≡ cond (f i) (count i f + 1) (count i f)
@@ -108,3 +108,20 @@ sum-fixed (suc n) c = omega (arith, sum-fixed n c, suc-mul n c)
 pub sum-front : (f : ℕ → ℕ) (n : ℕ) → sum (suc n) f ≡ f 0 + sum n (λ i. f (suc i))
 sum-front f zero = omega arith
 sum-front f (suc n) = let e = sum-front f n in omega arith
+
+-- a number below a sum lies in one of its parts
+pub record InPart (f : ℕ → ℕ) (n p : ℕ) : Type 0 where
+  pub part : ℕ
+  pub within : part < n
+  pub place : ℕ
+  pub below : place < f part
+  pub at : p ≡ sum part f + place
+
+pub in-part : (f : ℕ → ℕ) (n p : ℕ) → p < sum n f → InPart f n p
+in-part f zero p l = absurd (not-suc-le-zero l)
+in-part f (suc n) p l =
+    by-less p (sum n f)
+    (λ h.
+    let r = in-part f n p h in
+    record { part = r .part; within = omega (arith, r .within); place = r .place; below = r .below; at = r .at })
+    (λ h. record { part = n; within = omega arith; place = p - sum n f; below = omega arith; at = omega arith })

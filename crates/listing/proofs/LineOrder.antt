@@ -60,5 +60,5 @@ pub known-same : (head : List ℕ) → length head ≡ 4 + variables head → (s
     → (known w : ℕ) → evaluateInput (head ++ s) known w ≡ evaluateInput (head ++ z) known w
 unfolding evaluateInput
 known-same head exact s z h known w =
-    ap₂ (λ (o : WholeOutcome) (t : ℕ). evaluateWritten o t known w) (input-same head exact s z h (replicate 80 0) (replicate 32768 0))
+    ap₂ (λ (o : WholeOutcome) (t : ℕ). evaluateWritten o t known w) (input-same head exact s z h (replicate 80 0) (replicate 65536 0))
     (variables-of head exact s ∙ sym (variables-of head exact z))

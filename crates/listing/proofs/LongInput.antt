@@ -85,5 +85,5 @@ long-input records rows input bytes =
 pub long-known : (input : List ℕ) → ((i : ℕ) → getD input i 0 < 256) → (known w : ℕ) → evaluateInput (take 4096 input) known w ≡ evaluateInput input known w
 unfolding evaluateInput
 long-known input bytes known w =
-    ap₂ (λ (o : WholeOutcome) (t : ℕ). evaluateWritten o t known w) (long-input (replicate 80 0) (replicate 32768 0) input bytes)
+    ap₂ (λ (o : WholeOutcome) (t : ℕ). evaluateWritten o t known w) (long-input (replicate 80 0) (replicate 65536 0) input bytes)
     (by-less 4096 (length input) (variables-kept input bytes) (λ h. ap variables (take-all 4096 input h)))

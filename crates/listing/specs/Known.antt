@@ -5,7 +5,8 @@ use mathlib.Core.Bool.{cond}
 use mathlib.Core.List.{List}
 use lib.Dec.{eqb}
 use lib.ListN.{take, replicate}
-use Rattle.sheet_spec.specs.Limits.{mostRecordBytes, mostRows}
+use Rattle.sheet_spec.specs.Limits.{mostRecordBytes}
+use Rattle.stored_spec.specs.RowBytes.{twoBytes, mostRowBytes, room}
 use Rattle.evaluation_spec.specs.Known.{Evaluated, refused, evaluate}
 use Rattle.node_table.specs.Nodes.{WholeOutcome, wholeOutcome}
 use Rattle.listing.specs.Split.{variables, jobOf, sheetOf}
@@ -14,10 +15,10 @@ use Rattle.listing.specs.Split.{variables, jobOf, sheetOf}
 unfoldable pub evaluateWritten : WholeOutcome → ℕ → ℕ → ℕ → Evaluated
 evaluateWritten o t known w =
     cond (eqb (o .answer .refusal) 0)
-    (evaluate (take (4 * t) (o .records)) (take (o .answer .rows) (o .rows)) known w)
+    (evaluate (take (4 * t) (o .records)) (take (room twoBytes (o .answer .rows)) (o .rows)) known w)
     (refused (o .answer .refusal))
 
 -- of the input's job, over memory that is enough for every job
 unfoldable pub evaluateInput : List ℕ → ℕ → ℕ → Evaluated
 evaluateInput input known w =
-    evaluateWritten (wholeOutcome (replicate mostRecordBytes 0) (replicate mostRows 0) (jobOf input) (sheetOf input)) (variables input) known w
+    evaluateWritten (wholeOutcome (replicate mostRecordBytes 0) (replicate mostRowBytes 0) (jobOf input) (sheetOf input)) (variables input) known w

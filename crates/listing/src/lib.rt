@@ -10,13 +10,14 @@ use cutting::Compilation;
 use evaluation::Evaluation;
 use libc::STDOUT_FILENO;
 use numbers::least;
+use numbers::pair;
 use numbers::wide;
 use numbers::wide16;
 use reduction_spec::Widths;
 use sheet_spec::MOST_OUTPUTS;
 use sheet_spec::MOST_VARIABLES;
 use stored_spec::MOST_RECORD_BYTES;
-use stored_spec::MOST_ROWS;
+use stored_spec::MOST_ROW_BYTES;
 
 // Byte i of the input, 0 where it has ended.
 fn number(input: &[u8], i: usize) -> usize
@@ -49,10 +50,10 @@ fn record_memory() -> [u8; MOST_RECORD_BYTES]
     [0u8; MOST_RECORD_BYTES]
 }
 
-fn row_memory() -> [u8; MOST_ROWS]
-    ensures { λ r. ⌜ (32768 ≡ length r) × (r ≡ replicate 32768 0) ⌝ }
+fn row_memory() -> [u8; MOST_ROW_BYTES]
+    ensures { λ r. ⌜ (65536 ≡ length r) × (r ≡ replicate 65536 0) ⌝ }
 {
-    [0u8; MOST_ROWS]
+    [0u8; MOST_ROW_BYTES]
 }
 
 // Which outputs of the input's job are certain where the inputs of the mask are known and are those of the word; nothing is where the job is refused.
@@ -65,7 +66,7 @@ pub fn evaluate_input(input: &[u8], known: u16, word: u16) -> Evaluation
     if compiled.refusal == 0 {
         let t = number(input, 0) + number(input, 1);
         let used = least(4 * t, MOST_RECORD_BYTES);
-        let filled = least(wide16(compiled.rows), MOST_ROWS);
+        let filled = least(wide16(compiled.rows) * 2, MOST_ROW_BYTES);
         return evaluation::evaluate(&records[..used], &rows[..filled], known, word);
     }
     Evaluation {
@@ -105,12 +106,12 @@ fn print_heights(t: usize, widths: &Widths) {
     }
 }
 
-// The rows from place at up to place end.
+// The values of the rows from place at up to place end, two bytes each.
 fn print_rows(rows: &[u8], at: usize, end: usize) {
-    let last = least(end, rows.len());
+    let last = least(end, rows.len() / 2);
     let mut i = at;
     while i < last {
-        print_next(wide(rows[i]));
+        print_next(wide16(pair(rows[i * 2], rows[i * 2 + 1])));
         i += 1;
     }
 }

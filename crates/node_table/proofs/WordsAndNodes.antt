@@ -98,14 +98,14 @@ module _ (nodes : List Node) where
           let short : ltb (length front) (length (nodeWords (c .nodes))) ≡ ltb (length nodes) (length (c .nodes)) =
           ap₂ ltb front-long (length-nodeWords (c .nodes)) ∙ short-same (length nodes) (length (c .nodes)) few in
           let last : CompiledAs ℕ =
-          cond (ltb (length rows) (length (c .rows))) (refusal nodeWords front records rows 11) (acceptance nodeWords front records rows j c) in
+          cond (ltb (length rows) (length (c .rowBytes))) (refusal nodeWords front records rows 11) (acceptance nodeWords front records rows j c) in
           let rest : CompiledAs ℕ = cond (ltb (length records) (4 * t j)) (refusal nodeWords front records rows 10) last in
           subst (λ (b : Bool). Alike (cond b (refusal nodeWords front records rows 9) rest) (lend (λ xs. xs) nodes records rows j c)) (sym short)
           (cond-pair Alike (ltb (length nodes) (length (c .nodes))) (λ _. both-refuse 9)
           (λ room.
           cond-pair Alike (ltb (length records) (4 * t j)) (λ _. both-refuse 10)
           (λ _.
-          cond-pair Alike (ltb (length rows) (length (c .rows))) (λ _. both-refuse 11)
+          cond-pair Alike (ltb (length rows) (length (c .rowBytes))) (λ _. both-refuse 11)
           (λ _. both-accept (ltb-false (length nodes) (length (c .nodes)) room)))))
 
     both : Alike (compileWords front records rows j s) (compile nodes records rows j s)

@@ -1,6 +1,6 @@
 // Small numbers that every layer needs: widened, compared, read from bytes. Total, so that any crate may call them.
 ghost use mathlib.Core.Path.{_≡_};
-ghost use Prim.Native.Nat.{_<_, _≤_, min};
+ghost use Prim.Native.Nat.{_+_, _*_, _<_, _≤_, min};
 ghost use lib.ListN.{getD};
 
 pub fn wide(x: u8) -> usize
@@ -28,6 +28,13 @@ pub fn least(a: usize, b: usize) -> usize
         return a;
     }
     b
+}
+
+// The number of two bytes.
+pub fn pair(low: u8, high: u8) -> u16
+    ensures { λ r. ⌜ r ≡ low + high * 256 ⌝ }
+{
+    (low as u16) + (high as u16) * 256
 }
 
 // Byte i; past the end 0.

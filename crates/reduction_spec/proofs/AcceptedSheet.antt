@@ -12,7 +12,7 @@ use lib.Dec.{leb}
 use lib.ListN.{length, getD, length-append}
 use Rattle.laws.specs.Tests.{within}
 use Rattle.laws.specs.Lists.{tab}
-use Rattle.laws.proofs.Cases.{by-test, last-or-below, and-split, cond-yes}
+use Rattle.laws.proofs.Cases.{by-test, by-equal, and-split, cond-yes}
 use Rattle.laws.proofs.Lists.{length-tab, getD-tab}
 use Rattle.sheet_spec.specs.Job.{Job, t}
 use Rattle.sheet_spec.specs.Refusals.{outOfRange, refuse1, sheetRefusal}
@@ -23,7 +23,7 @@ use Rattle.reduction_spec.specs.Merge.{reduced, refuse7}
 use Rattle.reduction_spec.specs.Columns.{firstsAt, width, layers, widthIn}
 use Rattle.reduction_spec.specs.Diagram.{nodeAt, nodesTo, nodes}
 use Rattle.reduction_spec.proofs.MergeKeepsOrderRule.{Ruled}
-use Rattle.reduction_spec.proofs.AllMerges.{merged-below, merged-ruled, reduced-keeps, width-top, width-fits}
+use Rattle.reduction_spec.proofs.AllMerges.{merged-below, merged-ruled, reduced-keeps, width-top, width-bottom, width-fits}
 
 module _ (j : Job) (s : List ℕ) (e : sheetRefusal j s ≡ 0) where
   read : Accepted (j .n) (j .m) (j .order) s
@@ -34,8 +34,8 @@ module _ (j : Job) (s : List ℕ) (e : sheetRefusal j s ≡ 0) where
   some-variable =
       by-test (refuse1 j) (λ b. let z = sym (cond-yes (refuse1 j) 1 _ b) ∙ e in absurd (omega arith))
       (λ b.
-      let all = not-false (within 1 12 (j .n) && within 1 8 (j .m) && within 2 12 (j .K) && within 1 8 (j .L)) b in
-      let three = and-split (within 1 12 (j .n) && within 1 8 (j .m) && within 2 12 (j .K)) (within 1 8 (j .L)) all .0 in
+      let all = not-false (within 1 12 (j .n) && within 1 8 (j .m) && within 2 12 (j .K) && within 1 16 (j .L)) b in
+      let three = and-split (within 1 12 (j .n) && within 1 8 (j .m) && within 2 12 (j .K)) (within 1 16 (j .L)) all .0 in
       let two = and-split (within 1 12 (j .n) && within 1 8 (j .m)) (within 2 12 (j .K)) three .0 in
       let one = and-split (within 1 12 (j .n)) (within 1 8 (j .m)) two .0 in
       omega (arith, leb-true 1 (j .n) (and-split (leb 1 (j .n)) (leb (j .n) 12) one .0)))
@@ -61,6 +61,17 @@ module _ (j : Job) (s : List ℕ) (e : sheetRefusal j s ≡ 0) where
   reduced-ruled =
       merged-ruled j (read .order-whole) (read .inputs) (read .outputs) (table j s) sheet-ruled (t j - 1)
 
+-- where 7 is not given no height has over 512 columns
+pub width-most : (j : Job) (s : List ℕ) → sheetRefusal j s ≡ 0 → refuse7 j (table j s) ≡ false
+    → (h : ℕ) → h ≤ t j → width j (reduced j (table j s)) h ≤ 512
+width-most j s e narrow h l =
+    let r = read j s e in
+    let f = reduced j (table j s) in
+    by-equal h 0 (λ z. omega (arith, ap (width j f) z, width-bottom j f))
+    (λ z.
+    by-equal h (t j) (λ top. omega (arith, ap (width j f) top, width-top j (r .order-whole) (r .inputs) (r .outputs) f))
+    (λ below. width-fits j (r .order-whole) (r .inputs) (r .outputs) (table j s) narrow h (omega arith) (omega arith)))
+
 -- the widths as the layers hold them
 pub width-layer : (j : Job) (f : List ℕ) (h : ℕ) → h ≤ t j → widthIn (layers j f) h ≡ width j f h
 unfolding layers width
@@ -83,15 +94,5 @@ nodes-fit j s e narrow =
     let r = read j s e in
     let f = reduced j (table j s) in
     let fits : (g : ℕ) → g < t j → widthIn (layers j f) (suc g) ≤ 512 =
-    λ g l.
-    last-or-below g (t j - 1) (omega arith)
-    (λ is.
-    let top : suc g ≡ t j = omega arith in
-    omega (arith, width-layer j f (suc g) (omega arith), ap (width j f) top, width-top j (r .order-whole) (r .inputs) (r .outputs) f))
-    (λ k.
-    omega (
-      arith,
-      width-layer j f (suc g) (omega arith),
-      width-fits j (r .order-whole) (r .inputs) (r .outputs) (table j s) narrow (suc g) (omega arith) (omega arith),
-    )) in
+    λ g l. omega (arith, width-layer j f (suc g) (omega arith), width-most j s e narrow (suc g) (omega arith)) in
     omega (arith, nodes-few j f (layers j f) 512 (t j) fits, r .inputs, r .outputs)

@@ -8,9 +8,9 @@ pub use Rattle.reduction_spec.proofs.MergeKeeps.{same-deeper}
 -- the order rule of a table
 pub use Rattle.reduction_spec.proofs.MergeKeepsOrderRule.{Ruled}
 -- widths: 1 at the top and at the bottom, at most 512 where 7 is not given
-pub use Rattle.reduction_spec.proofs.AllMerges.{width-top, width-bottom, width-fits}
+pub use Rattle.reduction_spec.proofs.AllMerges.{width-top, width-bottom}
 -- the function after all merges keeps every 0 and 1 and the order rule; its nodes fit
-pub use Rattle.reduction_spec.proofs.AcceptedSheet.{reduced-refines, reduced-ruled, width-layer, nodes-fit}
+pub use Rattle.reduction_spec.proofs.AcceptedSheet.{reduced-refines, reduced-ruled, width-most, width-layer, nodes-fit}
 -- across an input the width at most doubles, across an output it does not grow
 pub use Rattle.reduction_spec.proofs.WidthsBelow.{width-step}
 -- the characteristic function of the sheet's table is the sheet's; the final function implies it

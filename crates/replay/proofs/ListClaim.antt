@@ -1,8 +1,8 @@
 -- Demand 3 on the code that runs a whole list: `list-demand3`. What `replay` writes for a bank made with S and a list of calls is the trace of the
 -- bank and of the book, the rows it leaves are the bank's, and every clause of demand 3 holds of the list.
--- It speaks of the lists that can be written in bytes (`allFit`). What is left out is an admission of 65,536 or more bytes of records or rows:
--- every bank refuses it with 12 and nothing changes (`uncoded-refused`), so no list is lost by it. Else `allFit` asks that bytes are bytes, words
--- are words of 16 bits, and that a latch has eight of them, which no caller of the code can break.
+-- It speaks of the lists that can be written in bytes (`allFit`). What is left out is an admission of 65,536 or more bytes of records or of
+-- 16,777,216 or more bytes of rows: every bank refuses it with 12 and nothing changes (`uncoded-refused`), so no list is lost by it. Else `allFit`
+-- asks that bytes are bytes, words are words of 16 bits, and that a latch has eight of them, which no caller of the code can break.
 -- Assumes nothing.
 use mathlib.Core.Path.{_≡_, refl, sym, _∙_, ap, ap₂}
 use mathlib.Core.Logic.{_⊎_}
@@ -15,8 +15,9 @@ use borrow.Author.Tests.{le-ltb}
 use Rattle.laws.specs.Tests.{within}
 use Rattle.laws.specs.Lists.{written}
 use Rattle.laws.proofs.Cases.{either, no-test}
-use Rattle.stored_spec.specs.StoredForm.{wellFormed}
-use Rattle.stored_spec.proofs.Promises.{records-have, formed-records, row-bytes}
+use Rattle.stored_spec.specs.StoredForm.{rowCount, wellFormed}
+use Rattle.stored_spec.specs.RowBytes.{twoBytes}
+use Rattle.stored_spec.proofs.Promises.{records-have, formed-records, row-bytes, room-two}
 use Rattle.bank_spec.specs.State.{State, fresh, formed, limitRefused}
 use Rattle.bank_spec.specs.Calls.{accepted, refused, numbered, admitRefusal, admit}
 use Rattle.bank_spec.specs.Book.{Book, newBook}
@@ -100,13 +101,13 @@ list-demand3 S e calls fit rows mem room =
       d,
     )
 
--- well formed records have at most 80 bytes, and their rows at most 32,768
-too-long : (R bytes : List ℕ) → (65536 ≤ length R) ⊎ (65536 ≤ length bytes) → wellFormed R bytes ≡ true → ⊥
+-- well formed records have at most 80 bytes, and their rows at most 65,536
+too-long : (R bytes : List ℕ) → (65536 ≤ length R) ⊎ (16777216 ≤ length bytes) → wellFormed R bytes ≡ true → ⊥
 too-long R bytes l e =
-    let have = records-have R (formed-records R bytes e) in
-    either l (λ p. omega (arith, have .whole, have .few)) (λ p. omega (arith, row-bytes R bytes e, have .rows))
+    let have = records-have twoBytes R (formed-records R bytes e) in
+    either l (λ p. omega (arith, have .whole, have .few)) (λ p. omega (arith, row-bytes R bytes e, room-two (rowCount R), have .rows))
 
-pub uncoded-refused : (s : State) (R bytes : List ℕ) → (65536 ≤ length R) ⊎ (65536 ≤ length bytes)
+pub uncoded-refused : (s : State) (R bytes : List ℕ) → (65536 ≤ length R) ⊎ (16777216 ≤ length bytes)
     → call s (admission R bytes) ≡ record { answer = refused 12; state = s }
 unfolding call admit admitRefusal numbered
 uncoded-refused s R bytes l =

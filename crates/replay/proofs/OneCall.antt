@@ -18,7 +18,7 @@ use Rattle.bank_spec.specs.Calls.{After, numbered, answerOf, admit, latch, step
 use Rattle.bank.specs.declared.Started.{Started}
 use Rattle.bank.specs.Given.{givenNumber, givenAnswer, started}
 use Rattle.bank_spec.specs.CallLists.{call, admission, latching, stepping}
-use Rattle.replay.specs.Coded.{making, calling, pair, saidSize, size, first}
+use Rattle.replay.specs.Coded.{making, calling, pair, triple, saidSize, size, first}
 use Rattle.replay.specs.Entries.{onBank, kindOf, firstOf, secondOf}
 use Rattle.replay.specs.Replay.{Shown, shown, shownOf}
 
@@ -65,12 +65,12 @@ module _ (k : Bank) (s : Scan) (S : ℕ) {made : Started} (e : made ≡ started 
       (λ t. absurd (z (ap (λ (m : Started). m .refusal) (e ∙ cond-no (limitRefused S) _ _ t))))
 
 -- the records and rows of an admission, as cut out of its bytes
-pub shown-admit : (k : Bank) (s : Scan) (rows l : List ℕ) (a b : ℕ) {x : Shown} {r : After State} → a ≡ pair l 1 → b ≡ pair l 3
-    → x ≡ shown r → r ≡ admit (stateOf k s rows) (take (5 + a - 5) (drop 5 l)) (take (5 + a + b - (5 + a)) (drop (5 + a) l))
-    → x ≡ shown (admit (stateOf k s rows) (take (pair l 1) (drop 5 l)) (take (pair l 3) (drop (5 + pair l 1) l)))
+pub shown-admit : (k : Bank) (s : Scan) (rows l : List ℕ) (a b : ℕ) {x : Shown} {r : After State} → a ≡ pair l 1 → b ≡ triple l 3
+    → x ≡ shown r → r ≡ admit (stateOf k s rows) (take (6 + a - 6) (drop 6 l)) (take (6 + a + b - (6 + a)) (drop (6 + a) l))
+    → x ≡ shown (admit (stateOf k s rows) (take (pair l 1) (drop 6 l)) (take (triple l 3) (drop (6 + pair l 1) l)))
 shown-admit k s rows l a b p q e d =
-    let u : 5 + a - 5 ≡ pair l 1 = omega (arith, p) in
-    let v : 5 + a + b - (5 + a) ≡ pair l 3 = omega (arith, q) in
+    let u : 6 + a - 6 ≡ pair l 1 = omega (arith, p) in
+    let v : 6 + a + b - (6 + a) ≡ triple l 3 = omega (arith, q) in
     e ∙ ap shown (rw (u, v, p) at d)
 
 -- a latch of the words in its bytes
@@ -86,7 +86,7 @@ module _ (l : List ℕ) where
   first-make e = rw e
 
   first-admit : getD l 0 0 ≡ 1
-      → first l ≡ calling (admission (take (pair l 1) (drop 5 l)) (take (pair l 3) (drop (5 + pair l 1) l)))
+      → first l ≡ calling (admission (take (pair l 1) (drop 6 l)) (take (triple l 3) (drop (6 + pair l 1) l)))
   unfolding first
   first-admit e = rw e
 
@@ -98,12 +98,12 @@ module _ (l : List ℕ) where
   unfolding first
   first-step p q r = rw (ne-eqb (getD l 0 0) 0 p, ne-eqb (getD l 0 0) 1 q, ne-eqb (getD l 0 0) 2 r)
 
-  said-admit : getD l 0 0 ≡ 1 → saidSize l ≡ 5 + pair l 1 + pair l 3
+  said-admit : getD l 0 0 ≡ 1 → saidSize l ≡ 6 + pair l 1 + triple l 3
   unfolding saidSize
   said-admit e = rw e
 
   -- an admission's bytes are there
-  pub admission-there : 0 < size l → getD l 0 0 ≡ 1 → 5 + pair l 1 + pair l 3 ≤ length l
+  pub admission-there : 0 < size l → getD l 0 0 ≡ 1 → 6 + pair l 1 + triple l 3 ≤ length l
   unfolding size
   admission-there h e =
       by-test (leb (saidSize l) (length l))
@@ -117,7 +117,7 @@ module _ (k : Bank) (s : Scan) (rows l : List ℕ) {x : Shown} where
   made-first e p d = rw (first-make l e, sym p) d
 
   pub admitted-first : getD l 0 0 ≡ 1
-      → x ≡ shown (admit (stateOf k s rows) (take (pair l 1) (drop 5 l)) (take (pair l 3) (drop (5 + pair l 1) l)))
+      → x ≡ shown (admit (stateOf k s rows) (take (pair l 1) (drop 6 l)) (take (triple l 3) (drop (6 + pair l 1) l)))
       → x ≡ shown (onBank (stateOf k s rows) (first l))
   unfolding onBank call
   admitted-first e d = rw (first-admit l e) d

@@ -17,8 +17,12 @@ use Rattle.laws.proofs.Bits.{two-bytes}
 use Rattle.laws.proofs.Lists.{tab-ext, tab-of}
 use Rattle.laws.proofs.Tests.{every-at}
 use Rattle.bank_spec.specs.CallLists.{admission, latching, stepping}
-use Rattle.replay.specs.Coded.{Coded, making, calling, pair, saidSize, size, first, callsTo, leftAfter, callsIn, readable, pairOf, allBytes, codeOf, fits, codesOf, allFit}
+use Rattle.replay.specs.Coded.{Coded, making, calling, pair, triple, saidSize, size, first, callsTo, leftAfter, callsIn, readable, pairOf, tripleOf, allBytes, codeOf, fits, codesOf, allFit}
 use Rattle.replay.proofs.Reading.{calls-more, readable-more}
+
+-- a number is what its three bytes say
+three-bytes : (x : ℕ) → x % 256 + 256 * (x / 256 % 256) + 65536 * (x / 65536) ≡ x
+three-bytes x = omega arith
 
 -- a call has bytes, and they say how many they are
 code-some : (c : Coded) → 0 < length (codeOf c)
@@ -29,9 +33,9 @@ code-some (calling (latching ws)) = omega arith
 code-some (calling stepping) = omega arith
 
 said-coded : (c : Coded) (l : List ℕ) → saidSize (codeOf c ++ l) ≡ length (codeOf c)
-unfolding codeOf saidSize pair
+unfolding codeOf saidSize pair triple
 said-coded (making S) l = refl
-said-coded (calling (admission R bytes)) l = omega (arith, two-bytes (length R), two-bytes (length bytes), length-append R bytes)
+said-coded (calling (admission R bytes)) l = omega (arith, two-bytes (length R), three-bytes (length bytes), length-append R bytes)
 said-coded (calling (latching ws)) l = refl
 said-coded (calling stepping) l = refl
 
@@ -43,15 +47,15 @@ size-coded c l =
 
 -- the call that they are
 first-coded : (c : Coded) (l : List ℕ) → fits c ≡ true → first (codeOf c ++ l) ≡ c
-unfolding codeOf first pair fits
+unfolding codeOf first pair triple fits
 first-coded (making S) l h = ap making (two-bytes S)
 first-coded (calling (admission R bytes)) l h =
     let rest = R ++ bytes ++ l in
     let whole = codeOf (calling (admission R bytes)) ++ l in
     let parts = append-assoc R bytes l in
     let records = ap (take (length R)) parts ∙ take-append-seam R (bytes ++ l) in
-    let after = sym (drop-drop (length R) 5 whole) ∙ ap (drop (length R)) parts ∙ drop-append-seam R (bytes ++ l) in
-    ap₂ (λ (m n : ℕ). calling (admission (take m rest) (take n (drop (5 + m) whole)))) (two-bytes (length R)) (two-bytes (length bytes))
+    let after = sym (drop-drop (length R) 6 whole) ∙ ap (drop (length R)) parts ∙ drop-append-seam R (bytes ++ l) in
+    ap₂ (λ (m n : ℕ). calling (admission (take m rest) (take n (drop (6 + m) whole)))) (two-bytes (length R)) (three-bytes (length bytes))
     ∙ ap₂ (λ (r s : List ℕ). calling (admission r s)) records (ap (take (length bytes)) after ∙ take-append-seam bytes l)
 first-coded (calling (latching ws)) l h =
     let word : ℕ → ℕ = λ b. getD ws b 0 in
@@ -104,18 +108,25 @@ pair-bytes x h =
     let below = ltb-true x 65536 h in
     and-join (lt-ltb (x % 256) 256 (omega arith)) (and-join (lt-ltb (x / 256) 256 (omega arith)) refl)
 
+-- and one below 16777216 in three
+triple-bytes : (x : ℕ) → ltb x 16777216 ≡ true → allBytes (tripleOf x) ≡ true
+triple-bytes x h =
+    let below = ltb-true x 16777216 h in
+    and-join (lt-ltb (x % 256) 256 (omega arith))
+    (and-join (lt-ltb (x / 256 % 256) 256 (omega arith)) (and-join (lt-ltb (x / 65536) 256 (omega arith)) refl))
+
 -- so is a call that fits
 code-bytes : (c : Coded) → fits c ≡ true → allBytes (codeOf c) ≡ true
 unfolding codeOf fits
 code-bytes (making S) h = pair-bytes S h
 code-bytes (calling (admission R bytes)) h =
     let records = ltb (length R) 65536 in
-    let rows = ltb (length bytes) 65536 in
+    let rows = ltb (length bytes) 16777216 in
     let (most, bytes-rows) = and-split (records && rows && allBytes R) (allBytes bytes) h in
     let (counts, bytes-records) = and-split (records && rows) (allBytes R) most in
     let (few-records, few-rows) = and-split records rows counts in
-    bytes-append (pairOf (length R)) (pairOf (length bytes) ++ R ++ bytes) (pair-bytes (length R) few-records)
-    (bytes-append (pairOf (length bytes)) (R ++ bytes) (pair-bytes (length bytes) few-rows) (bytes-append R bytes bytes-records bytes-rows))
+    bytes-append (pairOf (length R)) (tripleOf (length bytes) ++ R ++ bytes) (pair-bytes (length R) few-records)
+    (bytes-append (tripleOf (length bytes)) (R ++ bytes) (triple-bytes (length bytes) few-rows) (bytes-append R bytes bytes-records bytes-rows))
 code-bytes (calling (latching ws)) h =
     let words = and-split (eqb (length ws) 8) (every 8 (λ b. ltb (getD ws b 0) 65536)) h .1 in
     bytes-joined (λ b. pairOf (getD ws b 0)) 8 (λ b i. pair-bytes (getD ws b 0) (every-at (λ b. ltb (getD ws b 0) 65536) 8 words b i))

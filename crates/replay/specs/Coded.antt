@@ -1,9 +1,9 @@
 -- A list of calls in bytes, one call after another.
 --   0, S                          makes a bank with S
---   1, R, Q, R bytes, Q bytes     admits the block with these records and rows
+--   1, R, Q, R bytes, Q bytes     admits the block with these records and row bytes
 --   2, eight words                latches the words
 --   3                             steps
--- S, R, Q and the words are two bytes each, the low byte first.
+-- S, R and the words are two bytes each, the low byte first. Q has three, since a block may have 65,536 row bytes.
 -- Assumes nothing.
 use Prim.Native.Nat.{ℕ, zero, suc, _+_, _*_, _/_, _%_}
 use mathlib.Core.Bool.{Bool, true, cond, _&&_}
@@ -23,11 +23,15 @@ pub data Coded : Type 0 where
 unfoldable pub pair : List ℕ → ℕ → ℕ
 pair l i = getD l i 0 + 256 * getD l (i + 1) 0
 
+-- the number in the three bytes at place i
+unfoldable pub triple : List ℕ → ℕ → ℕ
+triple l i = pair l i + 65536 * getD l (i + 2) 0
+
 -- how many bytes the call at the front says it has; 0 where its first byte names none
 unfoldable pub saidSize : List ℕ → ℕ
 saidSize l =
     let code = getD l 0 0 in
-    cond (eqb code 0) 3 (cond (eqb code 1) (5 + pair l 1 + pair l 3) (cond (eqb code 2) 17 (cond (eqb code 3) 1 0)))
+    cond (eqb code 0) 3 (cond (eqb code 1) (6 + pair l 1 + triple l 3) (cond (eqb code 2) 17 (cond (eqb code 3) 1 0)))
 
 -- how many it has; 0 where no whole call stands at the front
 unfoldable pub size : List ℕ → ℕ
@@ -38,7 +42,7 @@ unfoldable pub first : List ℕ → Coded
 first l =
     let code = getD l 0 0 in
     cond (eqb code 0) (making (pair l 1))
-    (cond (eqb code 1) (calling (admission (take (pair l 1) (drop 5 l)) (take (pair l 3) (drop (5 + pair l 1) l))))
+    (cond (eqb code 1) (calling (admission (take (pair l 1) (drop 6 l)) (take (triple l 3) (drop (6 + pair l 1) l))))
     (cond (eqb code 2) (calling (latching (tab 8 (λ i. pair l (1 + 2 * i))))) (calling stepping)))
 
 -- the calls from the front on, n at most, as long as whole ones stand there, and the bytes left after them
@@ -62,6 +66,10 @@ readable l = eqb (length (leftAfter (length l) l)) 0
 abbrev pub pairOf : ℕ → List ℕ
 pairOf x = x % 256 ∷ x / 256 ∷ []
 
+-- and in three
+abbrev pub tripleOf : ℕ → List ℕ
+tripleOf x = x % 256 ∷ x / 256 % 256 ∷ x / 65536 ∷ []
+
 -- every element is a byte
 abbrev pub allBytes : List ℕ → Bool
 allBytes [] = true
@@ -70,13 +78,13 @@ allBytes (x ∷ l) = ltb x 256 && allBytes l
 -- the bytes of a call, and whether its numbers fit in them
 unfoldable pub codeOf : Coded → List ℕ
 codeOf (making S) = 0 ∷ pairOf S
-codeOf (calling (admission R bytes)) = 1 ∷ (pairOf (length R) ++ pairOf (length bytes) ++ R ++ bytes)
+codeOf (calling (admission R bytes)) = 1 ∷ (pairOf (length R) ++ tripleOf (length bytes) ++ R ++ bytes)
 codeOf (calling (latching ws)) = 2 ∷ joined 8 (λ b. pairOf (getD ws b 0))
 codeOf (calling stepping) = 3 ∷ []
 
 unfoldable pub fits : Coded → Bool
 fits (making S) = ltb S 65536
-fits (calling (admission R bytes)) = ltb (length R) 65536 && ltb (length bytes) 65536 && allBytes R && allBytes bytes
+fits (calling (admission R bytes)) = ltb (length R) 65536 && ltb (length bytes) 16777216 && allBytes R && allBytes bytes
 fits (calling (latching ws)) = eqb (length ws) 8 && every 8 (λ b. ltb (getD ws b 0) 65536)
 fits (calling stepping) = true
 

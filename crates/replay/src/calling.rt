@@ -7,11 +7,12 @@ ghost use Rattle.bank_spec.specs.State.{stateOf};
 ghost use Rattle.bank.specs.Given.{givenNumber};
 ghost use Rattle.laws.specs.Lists.{tab};
 ghost use lib.ListN.{length, take, drop};
-ghost use Rattle.replay.specs.Coded.{making, pair, size, first};
+ghost use Rattle.replay.specs.Coded.{making, pair, triple, size, first};
 ghost use Rattle.replay.specs.Entries.{onBank};
 ghost use Rattle.replay.specs.Replay.{shown, shownOf};
 use crate::coded::byte_at;
 use crate::coded::pair_at;
+use crate::coded::triple_at;
 use crate::coded::words_in;
 use bank_spec::Bank;
 use bank_spec::Scan;
@@ -63,15 +64,15 @@ fn make_bank(bank: Bank, scan: Scan, limit: u16) -> Called
 }
 
 fn admit_coded(bank: Bank, scan: Scan, list: &[u8], rows: &mut [u8]) -> Called
-    requires { ⌜ 5 + pair (now list) 1 + pair (now list) 3 ≤ length (now list) ⌝ }
+    requires { ⌜ 6 + pair (now list) 1 + triple (now list) 3 ≤ length (now list) ⌝ }
     ensures { λ r.
         ⌜ shownOf (r .kind) (r .first) (r .second) (r .bank) (r .scan) (now (rows .exit))
-        ≡ shown (admit (stateOf bank scan (now (rows .entry))) (take (pair (now (list .entry)) 1) (drop 5 (now (list .entry))))
-        (take (pair (now (list .entry)) 3) (drop (5 + pair (now (list .entry)) 1) (now (list .entry))))) ⌝ }
+        ≡ shown (admit (stateOf bank scan (now (rows .entry))) (take (pair (now (list .entry)) 1) (drop 6 (now (list .entry))))
+        (take (triple (now (list .entry)) 3) (drop (6 + pair (now (list .entry)) 1) (now (list .entry))))) ⌝ }
 {
-    let middle = 5 + pair_at(list, 1);
-    let end = middle + pair_at(list, 3);
-    let done = bank::admit(bank, scan, &list[5..middle], &list[middle..end], rows);
+    let middle = 6 + pair_at(list, 1);
+    let end = middle + triple_at(list, 3);
+    let done = bank::admit(bank, scan, &list[6..middle], &list[middle..end], rows);
     let bank_after = done.bank;
     let scan_after = done.scan;
     numbered(done.refusal, bank_after, scan_after)

@@ -4,7 +4,7 @@ ghost use mathlib.Core.Bool.{true};
 ghost use Prim.Native.Nat.{_≤_, _<_, _+_, _*_};
 ghost use lib.ListN.{length, getD};
 ghost use Rattle.laws.specs.Lists.{tab};
-ghost use Rattle.replay.specs.Coded.{pair, saidSize, size, callsIn, readable};
+ghost use Rattle.replay.specs.Coded.{pair, triple, saidSize, size, callsIn, readable};
 use numbers::wide;
 
 // The calls of a list that is whole.
@@ -29,6 +29,16 @@ pub fn pair_at(list: &[u8], i: usize) -> usize
     low + 256 * high
 }
 
+// The number in the three bytes at place i.
+pub fn triple_at(list: &[u8], i: usize) -> usize
+    requires { ⌜ i < 1024 ⌝ }
+    ensures { λ r. ⌜ (r ≡ triple (now (list .entry)) i) × (r < 16777216) ⌝ }
+{
+    let lower = pair_at(list, i);
+    let top = byte_at(list, i + 2);
+    lower + 65536 * top
+}
+
 fn said_size(list: &[u8]) -> usize
     ensures { λ r. ⌜ r ≡ saidSize (now (list .entry)) ⌝ }
 {
@@ -38,8 +48,8 @@ fn said_size(list: &[u8]) -> usize
     }
     if code == 1 {
         let records = pair_at(list, 1);
-        let rows = pair_at(list, 3);
-        return 5 + records + rows;
+        let rows = triple_at(list, 3);
+        return 6 + records + rows;
     }
     if code == 2 {
         return 17;

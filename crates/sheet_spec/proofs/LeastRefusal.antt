@@ -20,8 +20,8 @@ use Rattle.sheet_spec.specs.Accepted.{Accepted}
 pub in-range : (n m k l : ℕ) → outOfRange n m k l ≡ false → (n ≤ 12) × (m ≤ 8)
 unfolding outOfRange
 in-range n m k l e =
-    let all = not-false (within 1 12 n && within 1 8 m && within 2 12 k && within 1 8 l) e in
-    let three = and-split (within 1 12 n && within 1 8 m && within 2 12 k) (within 1 8 l) all .0 in
+    let all = not-false (within 1 12 n && within 1 8 m && within 2 12 k && within 1 16 l) e in
+    let three = and-split (within 1 12 n && within 1 8 m && within 2 12 k) (within 1 16 l) all .0 in
     let two = and-split (within 1 12 n && within 1 8 m) (within 2 12 k) three .0 in
     let one = and-split (within 1 12 n) (within 1 8 m) two in
     (leb-true n 12 (and-split (leb 1 n) (leb n 12) (one .0) .1), leb-true m 8 (and-split (leb 1 m) (leb m 8) (one .1) .1))

@@ -16,12 +16,12 @@ mostVariables = mostInputs + mostOutputs
 abbrev pub sheetBytes : ℕ
 sheetBytes = 2048
 
--- "The largest cell, 12 inputs and 8 outputs"; K and L are at most these
+-- the largest cell, 12 inputs and 16 outputs (document 02, §6); K and L are at most these
 abbrev pub largestInputs : ℕ
 largestInputs = 12
 
 abbrev pub largestOutputs : ℕ
-largestOutputs = 8
+largestOutputs = 16
 
 -- a row holds a value for each output of its cell
 abbrev pub rowValues : ℕ

@@ -16,8 +16,9 @@ use Rattle.laws.proofs.Tests.{every-at}
 use Rattle.laws.proofs.Counts.{sum-le, sum-fixed}
 use Rattle.sheet_spec.specs.Job.{isInput}
 use Rattle.sheet_spec.specs.Limits.{largestInputs, largestOutputs}
+use Rattle.stored_spec.specs.RowBytes.{twoBytes}
 use Rattle.stored_spec.specs.Cells.{fits, rows}
-use Rattle.stored_spec.specs.StoredForm.{StoredCell, Reading, recordCount, variable, cutByte, railByte, appended, withVariable, withCut, reading, storedCells, cellCount, noCell, cellAt, sizeOf, rowsBefore, rowCount, cellFormed, recordsFormed}
+use Rattle.stored_spec.specs.StoredForm.{StoredCell, Reading, recordCount, variable, cutByte, railByte, appended, withVariable, withCut, reading, storedCells, cellCount, noCell, cellAt, sizeOf, rowsBefore, rowCount, cellFormed, cellFormedAs, recordsFormed}
 use Rattle.stored_spec.specs.Run.{address, rowPlace, outputsAfter}
 use Rattle.stored.specs.Reads.{hasCell, cellsFit, rowsCounted, cellRails, rowRead, outputsRead}
 use Rattle.stored_spec.proofs.CellSizes.{few-inputs, few-outputs, few-rows}
@@ -164,7 +165,7 @@ few-cells R i cut p q = omega (arith, p, q, one-cell (eqb cut 1), cells-few R i)
 -- rows counted, where the cells fit
 pub formed-fit : (R : List ℕ) → recordsFormed R ≡ true → cellsFit R ≡ true
 unfolding cellsFit
-formed-fit R e = let h = records-have R e in and-join (le-leb (length R) 80 (omega (arith, h .whole, h .few))) (h .cells)
+formed-fit R e = let h = records-have twoBytes R e in and-join (le-leb (length R) 80 (omega (arith, h .whole, h .few))) (h .cells)
 
 pub fit-parts : (R : List ℕ) → cellsFit R ≡ true → (length R ≤ 80) × (every (cellCount R) (cellFormed R) ≡ true)
 unfolding cellsFit
@@ -228,7 +229,7 @@ module _ (R : List ℕ) (k : ℕ) where
     rails-told = and-join (le-leb (length R) 80 (cells-told .0)) (told-parts .1)
 
     fits-at : (i : ℕ) → i < cellCount R → fits largestInputs largestOutputs (sizeOf (cellAt R i)) ≡ true
-    unfolding cellFormed
+    unfolding cellFormedAs
     fits-at = every-at (cellFormed R) (cellCount R) (cells-told .1)
 
     pub few-rails : cellAt R k .upper ≤ largestInputs
@@ -271,8 +272,8 @@ module _ (R : List ℕ) (k : ℕ) where
     pub cell-there : k < cellCount R
     cell-there = ltb-true k (cellCount R) (has-parts .1)
 
-    pub records-there : RecordsHave R
-    records-there = records-have R (has-parts .0)
+    pub records-there : RecordsHave twoBytes R
+    records-there = records-have twoBytes R (has-parts .0)
 
     pub some-outputs : (x : ℕ) (outs : List ℕ) → outputsAfter (cellAt R k) outs x ≡ outputsRead R k x outs
     unfolding outputsRead

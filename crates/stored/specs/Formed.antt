@@ -5,9 +5,10 @@ use mathlib.Core.Path.{_≡_}
 use mathlib.Core.Bool.{Bool, true, false, cond, _&&_, _||_}
 use mathlib.Core.List.{List}
 use lib.Dec.{eqb, leb}
-use lib.ListN.{length, getD}
+use lib.ListN.{length}
 use Rattle.laws.specs.Bits.{marks}
 use Rattle.laws.specs.Tests.{within}
+use Rattle.stored_spec.specs.RowBytes.{twoBytes, rowValue}
 use Rattle.stored_spec.specs.StoredForm.{rowCount, recordsFormed}
 
 -- an input or an output; the bytes after a variable
@@ -21,12 +22,9 @@ cutFormed cut rail last = leb cut 1 && (eqb cut 1 || eqb rail 0) && eqb last 0
 abbrev pub placeOf : ℕ → ℕ
 placeOf v = (v + v / 8) % 64
 
-abbrev pub byteAt : List ℕ → ℕ → ℕ
-byteAt l i = getD l i 0
-
--- the bits that some byte has
+-- the bits that some row has
 abbrev pub bitsOf : List ℕ → ℕ
-bitsOf l = marks 0 (byteAt l) (length l)
+bitsOf bytes = marks 0 (rowValue twoBytes bytes) (length bytes / 2)
 
 -- one more than the most rows
 abbrev pub tooMany : ℕ

@@ -8,11 +8,14 @@ ghost use Rattle.laws.specs.Tests.{every, within};
 ghost use Rattle.sheet_spec.specs.Job.{isInput};
 ghost use Rattle.sheet_spec.specs.Limits.{largestInputs, largestOutputs};
 ghost use Rattle.stored_spec.specs.Cells.{cell, fits};
+ghost use Rattle.stored_spec.specs.RowBytes.{twoBytes, rowValue, room};
 ghost use Rattle.stored_spec.specs.StoredForm.{recordCount, cutByte, railByte, recordFormed, cellCount, cellFormed};
-ghost use Rattle.stored_spec.specs.StoredForm.{recordsFormed, rowsFormed, rowCount, wellFormed};
+ghost use Rattle.stored_spec.specs.StoredForm.{recordsFormed, rowsFormedAs, rowCount, wellFormed};
 ghost use Rattle.stored.specs.Formed.{isNamed, cutFormed, placeOf, bitsOf, tooMany, Counted, rowsWanted};
 use crate::casts::power;
+use numbers::pair;
 use numbers::wide;
+use numbers::wide16;
 use sheet_spec::MOST_VARIABLES;
 use stored_spec::Cell;
 use stored_spec::MOST_ROWS;
@@ -275,37 +278,45 @@ pub fn records_formed(records: &[u8]) -> bool
     rows_wanted(records) <= MOST_ROWS
 }
 
-// The bits that some row has. The loop touches bytes alone, and has no exit, so that it is made for many bytes at once.
-fn bits_of(rows: &[u8]) -> u8
+// Row i, low byte first.
+fn row_at(rows: &[u8], i: usize) -> u16
+    requires { do ⌜ i * 2 + 1 < (← ⟦rows.len()⟧) ⌝ }
+    ensures { λ r. ⌜ r ≡ rowValue twoBytes (now (rows .entry)) i ⌝ }
+{
+    pair(rows[i * 2], rows[i * 2 + 1])
+}
+
+// The bits that some row has. The loop has no exit, so that it is made for many rows at once.
+fn bits_of(rows: &[u8]) -> u16
     ensures { λ r. ⌜ r ≡ bitsOf (now (rows .entry)) ⌝ }
 {
-    let count = rows.len();
-    let mut seen = 0u8;
+    let count = rows.len() / 2;
+    let mut seen = 0u16;
     let mut i = 0;
     while i < count {
-        seen = seen | rows[i];
+        seen = seen | row_at(rows, i);
         i += 1;
     }
     seen
 }
 
-// Each of the count rows from place at on is below 2^outputs. Any byte is below 2^8.
+// Each of the count rows from place at on is below 2^outputs. Any row is below 2^16.
 fn rows_below(rows: &[u8], at: usize, count: usize, outputs: usize) -> bool
-    requires { do ⌜ (at + count ≤ (← ⟦rows.len()⟧)) × (outputs ≤ largestOutputs) ⌝ }
-    ensures { λ r. ⌜ r ≡ every count (λ i. ltb (getD (now (rows .entry)) (at + i) 0) (2 ^ outputs)) ⌝ }
+    requires { ⌜ (room twoBytes (at + count) ≤ length (now rows)) × (outputs ≤ largestOutputs) ⌝ }
+    ensures { λ r. ⌜ r ≡ every count (λ i. ltb (rowValue twoBytes (now (rows .entry)) (at + i)) (2 ^ outputs)) ⌝ }
 {
     if outputs == Cell::MAX_OUTPUTS {
         return true;
     }
     let end = at + count;
-    let seen = wide(bits_of(&rows[at..end]));
-    seen < power(outputs)
+    let seen = wide16(bits_of(&rows[at * 2..end * 2]));
+    seen < 1 << outputs
 }
 
 // The rows of a cell that a cut ends, from place at on, are below 2^outputs.
 fn cell_below(rows: &[u8], cut: usize, at: usize, inputs: usize, outputs: usize) -> bool
-    requires { ⌜ (cut ≡ 1 → (inputs ≤ largestInputs) × (outputs ≤ largestOutputs) × (at + 2 ^ inputs ≤ length (now rows))) ⌝ }
-    ensures { λ r. ⌜ r ≡ cond (eqb cut 1) (every (2 ^ inputs) (λ i. ltb (getD (now (rows .entry)) (at + i) 0) (2 ^ outputs))) true ⌝ }
+    requires { ⌜ (cut ≡ 1 → (inputs ≤ largestInputs) × (outputs ≤ largestOutputs) × (room twoBytes (at + 2 ^ inputs) ≤ length (now rows))) ⌝ }
+    ensures { λ r. ⌜ r ≡ cond (eqb cut 1) (every (2 ^ inputs) (λ i. ltb (rowValue twoBytes (now (rows .entry)) (at + i)) (2 ^ outputs))) true ⌝ }
 {
     if cut == 1 {
         let count = power(inputs);
@@ -317,8 +328,8 @@ fn cell_below(rows: &[u8], cut: usize, at: usize, inputs: usize, outputs: usize)
 // The rows of each cell are below 2^outputs.
 fn rows_formed(records: &[u8], rows: &[u8]) -> bool
     requires { ⌜ (length (now records) ≤ 80) × (every (cellCount (now records)) (cellFormed (now records)) ≡ true)
-        × (length (now rows) ≡ rowCount (now records)) ⌝ }
-    ensures { λ r. ⌜ r ≡ every (cellCount (now (records .entry))) (rowsFormed (now (records .entry)) (now (rows .entry))) ⌝ }
+        × (length (now rows) ≡ room twoBytes (rowCount (now records))) ⌝ }
+    ensures { λ r. ⌜ r ≡ every (cellCount (now (records .entry))) (rowsFormedAs twoBytes (now (records .entry)) (now (rows .entry))) ⌝ }
 {
     let count = records.len() / 4;
     let mut formed = true;
@@ -343,12 +354,15 @@ fn rows_formed(records: &[u8], rows: &[u8]) -> bool
     formed
 }
 
-// The records are well formed, the rows equal in number to the row bytes, and each row below 2^outputs.
+// The records are well formed, there are two row bytes for each row, and each row is below 2^outputs.
 pub fn formed(records: &[u8], rows: &[u8]) -> bool
     ensures { λ r. ⌜ r ≡ wellFormed (now (records .entry)) (now (rows .entry)) ⌝ }
 {
     let wanted = rows_wanted(records);
-    if (wanted <= MOST_ROWS) & (rows.len() == wanted) {
+    if MOST_ROWS < wanted {
+        return false;
+    }
+    if rows.len() == wanted * 2 {
         return rows_formed(records, rows);
     }
     false

@@ -107,7 +107,7 @@ pub fn row_read(records: &[u8], k: usize, rail: u16, word: u16) -> usize
 }
 
 // Sets the outputs of cell k to their bits of the row, and no others; nothing where there is no such cell.
-pub fn set_outputs(records: &[u8], k: usize, row: u8, outputs: &mut [u8])
+pub fn set_outputs(records: &[u8], k: usize, row: u16, outputs: &mut [u8])
     ensures { λ _. ⌜ now (outputs .exit) ≡ outputsRead (now (records .entry)) k row (now (outputs .entry)) ⌝ }
 {
     reads::put_outputs(records, k, row, outputs)

@@ -258,12 +258,12 @@ fn store_outputs(records: &[u8], k: usize, row: usize, first: usize, outputs: &m
 }
 
 // Sets the outputs of cell k to their bits of the row, and no others; nothing where there is no such cell.
-pub fn put_outputs(records: &[u8], k: usize, row: u8, outputs: &mut [u8])
+pub fn put_outputs(records: &[u8], k: usize, row: u16, outputs: &mut [u8])
     ensures { λ _. ⌜ now (outputs .exit) ≡ outputsRead (now (records .entry)) k row (now (outputs .entry)) ⌝ }
 {
     if has_cell(records, k) {
         let rails = find_rails(records, k);
         let first = count_outputs(records, k) + wide(rails.lower);
-        store_outputs(records, k, wide(row), first, outputs);
+        store_outputs(records, k, wide16(row), first, outputs);
     }
 }

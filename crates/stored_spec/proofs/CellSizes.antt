@@ -52,7 +52,7 @@ module _ (c : Cell) (e : fits largestInputs largestOutputs c ≡ true) where
   power : 1 * 2 ^ c .inputs % 2 ^ 64 ≡ 2 ^ c .inputs
   power = omega (arith, few-rows)
 
-  pub few-bits : 1 * 2 ^ c .inputs % 2 ^ 64 * c .outputs ≤ 4096 * 8
+  pub few-bits : 1 * 2 ^ c .inputs % 2 ^ 64 * c .outputs ≤ 4096 * 16
   few-bits = let r : 1 * 2 ^ c .inputs % 2 ^ 64 ≤ 4096 = omega (arith, power, few-rows) in mul-le-mul r few-outputs
 
   pub rows-are : 1 * 2 ^ c .inputs % 2 ^ 64 ≡ usableRows c
@@ -83,6 +83,6 @@ module _ (c : Cell) where
   rows-small =
       by-test (fits largestInputs largestOutputs c) (λ e. omega (arith, rows-are c e, few-rows c e)) (λ e. omega (arith, rows-none c e))
 
-  pub bits-small : usableBits c ≤ 32768
+  pub bits-small : usableBits c ≤ 65536
   bits-small =
       by-test (fits largestInputs largestOutputs c) (λ e. omega (arith, bits-are c e, few-bits c e)) (λ e. omega (arith, bits-none c e))

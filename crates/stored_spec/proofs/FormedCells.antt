@@ -19,6 +19,7 @@ use Rattle.laws.proofs.Tests.{within-has}
 use Rattle.sheet_spec.specs.Job.{isInput}
 use Rattle.stored_spec.specs.Cells.{rows}
 use Rattle.stored_spec.specs.StoredForm.{StoredCell, Reading, recordCount, variable, cutByte, railByte, lastByte, withVariable, withCut, reading, storedCells, cellCount, noCell, cellAt, sizeOf, rowsBefore, rowCount, recordFormed, recordsFormed}
+use Rattle.stored_spec.specs.RowBytes.{twoBytes}
 use Rattle.stored_spec.specs.Run.{address, rowPlace}
 use Rattle.stored_spec.proofs.StoredParts.{records-have}
 use Rattle.stored_spec.proofs.StoredCells.{cellsTo, endedCell, next-ended, longer}
@@ -120,7 +121,7 @@ read-ordered R (suc n) h =
 
 module _ (R : List ℕ) (formed : recordsFormed R ≡ true) where
   all-ordered : Ordered (reading R (recordCount R))
-  all-ordered = read-ordered R (recordCount R) (records-have R formed .each)
+  all-ordered = read-ordered R (recordCount R) (records-have twoBytes R formed .each)
 
   pub inputs-small : (k : ℕ) → AllBelow 12 (cellAt R k .ins)
   unfolding cellAt storedCells
@@ -139,7 +140,7 @@ module _ (R : List ℕ) (formed : recordsFormed R ≡ true) where
   pub some-cell : 0 < cellCount R
   unfolding cellCount storedCells
   some-cell =
-      let have = records-have R formed in
+      let have = records-have twoBytes R formed in
       let i = recordCount R - 1 in
       let e : i + 1 ≡ recordCount R = omega (arith, have .some) in
       let cells : cellsTo R (recordCount R) ≡ cellsTo R i ++ (endedCell R i ∷ []) =

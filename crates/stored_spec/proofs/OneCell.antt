@@ -18,6 +18,7 @@ use Rattle.sheet_spec.specs.Job.{isInput}
 use Rattle.stored_spec.specs.StoredForm.{member, StoredCell, Reading, recordCount, variable, cutByte, railByte, lastByte, appended, withVariable, withCut, reading, storedCells, cellCount, noCell, cellAt, recordFormed, recordsFormed}
 use Rattle.stored_spec.specs.Run.{AgreeOn}
 use Rattle.stored_spec.proofs.StoredCells.{longer, earlier, latest}
+use Rattle.stored_spec.specs.RowBytes.{twoBytes}
 use Rattle.stored_spec.proofs.StoredParts.{records-have}
 
 pub member-snoc : (i : ℕ) (l : List ℕ) (v : ℕ) → member i (l ++ (v ∷ [])) ≡ true → (member i l ≡ false → i ≡ v)
@@ -169,9 +170,9 @@ read-apart R (suc n) h =
 pub one-cell : (R : List ℕ) → recordsFormed R ≡ true → (j k i : ℕ) → j < k → k < cellCount R
     → member i (cellAt R j .ins) ≡ true → member i (cellAt R k .ins) ≡ false
 unfolding cellAt cellCount storedCells
-one-cell R e j k i l m p = read-apart R (recordCount R) (records-have R e .each) .ended-apart j k i l m p
+one-cell R e j k i l m p = read-apart R (recordCount R) (records-have twoBytes R e .each) .ended-apart j k i l m p
 
 -- and stands in it once
 pub once-in : (R : List ℕ) → recordsFormed R ≡ true → (k : ℕ) → k < cellCount R → Once (cellAt R k .ins)
 unfolding cellAt cellCount storedCells
-once-in R e k l = read-apart R (recordCount R) (records-have R e .each) .ended-once k l
+once-in R e k l = read-apart R (recordCount R) (records-have twoBytes R e .each) .ended-once k l

@@ -7,12 +7,14 @@ pub use Rattle.stored_spec.proofs.CellSizes.{fits-largest, few-inputs, 
 pub use Rattle.stored_spec.proofs.Rails.{rails-enough, rails-least, rails-at, rails-top}
 -- what well formed records and rows have
 pub use Rattle.stored_spec.proofs.StoredParts.{records-have}
-pub use Rattle.stored_spec.proofs.ReadWriteCases.{formed-records, row-bytes}
+pub use Rattle.stored_spec.proofs.ReadWriteCases.{formed-parts, formed-records, row-bytes}
 -- what their cells have, and a row at each address
 pub use Rattle.stored_spec.proofs.FormedCells.{some-cell, rails-follow, row-within}
 -- stored cascades survive reading and writing
 pub use Rattle.stored_spec.proofs.RoundTrips.{read-write}
--- words that agree on the inputs of the cells read make the same run, words with the same bits 0 to 11 read the same rows
-pub use Rattle.stored_spec.proofs.SameRuns.{same-run, SameInputs, same-place, kept-inputs}
+-- words that agree on the inputs of the cells read make the same run, and so do rows with the same values; words with the same bits 0 to 11 read the same rows
+pub use Rattle.stored_spec.proofs.SameRuns.{same-run, SameInputs, same-place, kept-inputs, rail-within, same-rows}
+-- rows and their bytes
+pub use Rattle.stored_spec.proofs.RowForms.{length-rowBytes, row-kept, row-lt, row-two, room-two, room-rise, room-add, row-before, row-written, row-part}
 -- a run keeps the number of outputs
 pub use Rattle.stored_spec.proofs.Runs.{set-length}

@@ -11,14 +11,21 @@ use borrow.Author.Tests.{eqb-true, lt-ltb, le-ltb}
 use Rattle.laws.specs.Lists.{written}
 use Rattle.laws.specs.Tests.{every}
 use Rattle.laws.proofs.Cases.{by-test, by-less, and-split}
-use Rattle.stored_spec.specs.StoredForm.{recordsFormed, cellCount, rowCount, rowsFormed, wellFormed}
+use Rattle.stored_spec.specs.RowBytes.{twoBytes, room}
+use Rattle.stored_spec.specs.StoredForm.{recordsFormed, recordsFormedAs, cellCount, rowCount, rowsFormedAs, wellFormed, wellFormedAs}
 use Rattle.stored_spec.specs.ReadWrite.{wasRead, notRead, Written, cascadeOf, read, writtenAs, writeBytes}
 
--- the records of what is well formed are
+-- what is well formed has well formed records, as many row bytes as its rows take, and rows below 2^outputs
+pub formed-parts : (z : ℕ) (R bytes : List ℕ) → wellFormedAs z R bytes ≡ true
+    → (recordsFormedAs z R ≡ true) × (length bytes ≡ room z (rowCount R)) × (every (cellCount R) (rowsFormedAs z R bytes) ≡ true)
+unfolding wellFormedAs
+formed-parts z R bytes e =
+    let (a, b) = and-split _ (every (cellCount R) (rowsFormedAs z R bytes)) e in
+    let (c, d) = and-split (recordsFormedAs z R) (eqb (length bytes) (room z (rowCount R))) a in
+    (c, eqb-true (length bytes) (room z (rowCount R)) d, b)
+
 pub formed-records : (R bytes : List ℕ) → wellFormed R bytes ≡ true → recordsFormed R ≡ true
-unfolding wellFormed
-formed-records R bytes e =
-    and-split (recordsFormed R) (eqb (length bytes) (rowCount R)) (and-split _ (every (cellCount R) (rowsFormed R bytes)) e .0) .0
+formed-records R bytes e = formed-parts twoBytes R bytes e .0
 
 -- what is read
 pub read-formed : (R bytes : List ℕ) → wellFormed R bytes ≡ true → read R bytes ≡ wasRead (cascadeOf R bytes)
@@ -63,9 +70,6 @@ module _ (R bytes records rows : List ℕ) where
       no : {C : Type 0} (n : ℕ) → (n ≡ 0 → ⊥) → writeBytes R bytes records rows ≡ writtenAs n records rows → C
       no n z w = absurd (z (sym (ap (λ (x : Written). x .answer) w) ∙ e))
 
--- as many rows as the records ask for
-pub row-bytes : (R bytes : List ℕ) → wellFormed R bytes ≡ true → length bytes ≡ rowCount R
-unfolding wellFormed
-row-bytes R bytes e =
-    let a = and-split _ (every (cellCount R) (rowsFormed R bytes)) e .0 in
-    eqb-true (length bytes) (rowCount R) (and-split (recordsFormed R) (eqb (length bytes) (rowCount R)) a .1)
+-- as many row bytes as the rows take that the records ask for
+pub row-bytes : (R bytes : List ℕ) → wellFormed R bytes ≡ true → length bytes ≡ room twoBytes (rowCount R)
+row-bytes R bytes e = formed-parts twoBytes R bytes e .1

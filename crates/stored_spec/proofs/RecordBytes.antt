@@ -16,6 +16,7 @@ use Rattle.laws.specs.Bits.{flag}
 use Rattle.laws.proofs.Cases.{by-equal, and-split}
 use Rattle.laws.proofs.Bits.{flag-is}
 use Rattle.laws.proofs.Lists.{length-tab, getD-tab, tab-ext, tab-of}
+use Rattle.stored_spec.specs.RowBytes.{twoBytes}
 use Rattle.stored_spec.specs.StoredForm.{recordCount, variable, cutByte, railByte, lastByte, recordFormed, recordsFormed}
 use Rattle.stored_spec.specs.ReadWrite.{Record, noRecord, recordBytes, recordAt}
 use Rattle.stored_spec.proofs.StoredParts.{records-have}
@@ -80,7 +81,7 @@ record-has R i e =
 pub bytes-kept : (R : List ℕ) → recordsFormed R ≡ true → recordBytes (tab (recordCount R) (recordAt R)) ≡ R
 unfolding recordAt
 bytes-kept R e =
-    let p = records-have R e in
+    let p = records-have twoBytes R e in
     let rs : List Record = tab (recordCount R) (recordAt R) in
     let n : length rs ≡ recordCount R = length-tab (recordAt R) (recordCount R) in
     let long : length (recordBytes rs) ≡ length R = omega (arith, length-bytes rs, p .whole) in

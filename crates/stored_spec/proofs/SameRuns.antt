@@ -1,18 +1,17 @@
--- Words that agree on the inputs of the cells read so far: the run is the same. Before each cell the rail word is one of its rail words.
+-- Words that agree on the inputs of the cells read so far, and rows with the same values: the run is the same. Before each cell the rail word is one of its rail words.
 -- Assumes nothing.
 use mathlib.Core.Path.{_≡_, refl, sym, _∙_, ap}
 use mathlib.Core.Bool.{true}
 use mathlib.Core.List.{List, [], _∷_}
-use Prim.Native.Nat.{ℕ, zero, suc, _+_, _*_, _/_, _%_, _^_, _<_}
+use Prim.Native.Nat.{ℕ, zero, suc, _+_, _*_, _/_, _%_, _^_, _<_, _≤_}
 use native.Mathlib.Nat.{mod-lt}
 use native.Mathlib.Omega.{arith}
-use lib.ListN.{getD}
 use lib.Pow.{split, pow-pos}
 use Rattle.laws.specs.Bits.{bit}
 use Rattle.laws.proofs.Bits.{bit-low}
-use Rattle.stored_spec.specs.StoredForm.{cellCount, cellAt, rowsBefore, recordsFormed}
-use Rattle.stored_spec.specs.Run.{AgreeOn, address, rowPlace, outputsAfter, railAfter, run, ranOne}
-use Rattle.stored_spec.proofs.FormedCells.{AllBelow, inputs-small, first-upper, rails-follow}
+use Rattle.stored_spec.specs.StoredForm.{cellCount, cellAt, rowsBefore, rowCount, recordsFormed}
+use Rattle.stored_spec.specs.Run.{AgreeOn, address, rowPlace, outputsAfter, railAfter, runBy, ranOneBy}
+use Rattle.stored_spec.proofs.FormedCells.{AllBelow, inputs-small, first-upper, rails-follow, row-within}
 
 pub same-address : (is : List ℕ) (r w v : ℕ) → AgreeOn is w v → address r is w ≡ address r is v
 unfolding address
@@ -25,13 +24,13 @@ unfolding rowPlace
 same-row R k r w v h = ap (λ (a : ℕ). rowsBefore R k + a) (same-address (cellAt R k .ins) r w v h)
 
 -- words that agree on the inputs of the cells read so far: the run is the same
-pub same-run : (R bytes : List ℕ) (w v k : ℕ) → ((c : ℕ) → c < k → AgreeOn (cellAt R c .ins) w v) → run R bytes w k ≡ run R bytes v k
-unfolding run ranOne
-same-run R bytes w v zero h = refl
-same-run R bytes w v (suc k) h =
-    ap (ranOne R bytes w k) (same-run R bytes w v k (λ c l. h c (omega arith)))
-    ∙ ap (λ (x : ℕ). record { rail = railAfter (cellAt R k) x; outputs = outputsAfter (cellAt R k) (run R bytes v k .outputs) x })
-    (ap (λ (p : ℕ). getD bytes p 0) (same-row R k (run R bytes v k .rail) w v (h k (omega arith))))
+pub same-run : (f : ℕ → ℕ) (R : List ℕ) (w v k : ℕ) → ((c : ℕ) → c < k → AgreeOn (cellAt R c .ins) w v) → runBy f R w k ≡ runBy f R v k
+unfolding runBy ranOneBy
+same-run f R w v zero h = refl
+same-run f R w v (suc k) h =
+    ap (ranOneBy f R w k) (same-run f R w v k (λ c l. h c (omega arith)))
+    ∙ ap (λ (x : ℕ). record { rail = railAfter (cellAt R k) x; outputs = outputsAfter (cellAt R k) (runBy f R v k .outputs) x })
+    (ap f (same-row R k (runBy f R v k .rail) w v (h k (omega arith))))
 
 -- words with the same bits 0 to 11
 abbrev pub SameInputs : ℕ → ℕ → Type 0
@@ -50,7 +49,18 @@ kept-inputs w i l =
     sym (bit-low (w / 2 ^ 12) 12 (w % 2 ^ 12) i (mod-lt w (pow-pos 12)) l) ∙ ap (λ (x : ℕ). bit x i) (split w 12)
 
 -- before each cell of well formed records the rail word is one of its rail words
-pub rail-within : (R : List ℕ) → recordsFormed R ≡ true → (bytes : List ℕ) (w k : ℕ) → k < cellCount R → run R bytes w k .rail < 2 ^ cellAt R k .upper
-unfolding run ranOne railAfter
-rail-within R e bytes w zero l = rw (first-upper R e l) (omega arith)
-rail-within R e bytes w (suc k) l = rw (rails-follow R e k l) (mod-lt _ (pow-pos (cellAt R k .lower)))
+pub rail-within : (R : List ℕ) → recordsFormed R ≡ true → (f : ℕ → ℕ) (w k : ℕ) → k < cellCount R → runBy f R w k .rail < 2 ^ cellAt R k .upper
+unfolding runBy ranOneBy railAfter
+rail-within R e f w zero l = rw (first-upper R e l) (omega arith)
+rail-within R e f w (suc k) l = rw (rails-follow R e k l) (mod-lt _ (pow-pos (cellAt R k .lower)))
+
+-- rows with the same value at each place of the cascade make the same run
+pub same-rows : (R : List ℕ) → recordsFormed R ≡ true → (f g : ℕ → ℕ) → ((p : ℕ) → p < rowCount R → f p ≡ g p)
+    → (w k : ℕ) → k ≤ cellCount R → runBy f R w k ≡ runBy g R w k
+unfolding runBy ranOneBy
+same-rows R e f g h w zero l = refl
+same-rows R e f g h w (suc k) l =
+    let r = runBy f R w k .rail in
+    ap (λ (x : ℕ). record { rail = railAfter (cellAt R k) x; outputs = outputsAfter (cellAt R k) (runBy f R w k .outputs) x })
+    (h (rowPlace R k r w) (row-within R k r w l (rail-within R e f w k l)))
+    ∙ ap (ranOneBy g R w k) (same-rows R e f g h w k (omega arith))

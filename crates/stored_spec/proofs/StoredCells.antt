@@ -16,9 +16,10 @@ use Rattle.laws.proofs.Cases.{last-or-below, and-split, cond-yes}
 use Rattle.laws.proofs.Tests.{every-ext}
 use Rattle.laws.proofs.Counts.{sum-ext}
 use Rattle.sheet_spec.specs.Job.{isInput}
-use Rattle.sheet_spec.specs.Limits.{largestInputs, largestOutputs}
+use Rattle.sheet_spec.specs.Limits.{largestInputs}
 use Rattle.stored_spec.specs.Cells.{Cell, cell, fits, rows}
-use Rattle.stored_spec.specs.StoredForm.{StoredCell, Reading, recordCount, variable, cutByte, railByte, appended, withVariable, withCut, reading, storedCells, cellCount, noCell, cellAt, sizeOf, rowsBefore, rowCount, cellFormed, rowsFormed}
+use Rattle.stored_spec.specs.RowBytes.{outputsIn, rowValue}
+use Rattle.stored_spec.specs.StoredForm.{StoredCell, Reading, recordCount, variable, cutByte, railByte, appended, withVariable, withCut, reading, storedCells, cellCount, noCell, cellAt, sizeOf, rowsBefore, rowCount, cellFormedAs, rowsFormedAs}
 use Rattle.stored_spec.proofs.CellSizes.{fits-split}
 
 -- the reading after i records: of the cell begun its inputs and outputs in number, with record i's variable, and its upper rails
@@ -103,24 +104,24 @@ module _ (R : List ℕ) (i : ℕ) where
       by true = refl
       by false = refl
 
--- not larger than the largest; each of the cells is so; the rows of all
-abbrev sizeFits : StoredCell → Bool
-sizeFits c = fits largestInputs largestOutputs (sizeOf c)
+-- with z bytes a row: not larger than the largest; each of the cells is so; the rows of all
+abbrev sizeFits : ℕ → StoredCell → Bool
+sizeFits z c = fits largestInputs (outputsIn z) (sizeOf c)
 
-unfoldable pub fitAll : List StoredCell → Bool
-fitAll cs = every (length cs) (λ k. sizeFits (getD cs k noCell))
+unfoldable pub fitAll : ℕ → List StoredCell → Bool
+fitAll z cs = every (length cs) (λ k. sizeFits z (getD cs k noCell))
 
 unfoldable pub rowSum : List StoredCell → ℕ
 rowSum cs = sum (length cs) (λ k. rows (sizeOf (getD cs k noCell)))
 
 -- of row bytes: each of the n from place at on is below b; the rows of each cell are below 2^outputs
-unfoldable pub rowsBelow : List ℕ → ℕ → ℕ → ℕ → Bool
-rowsBelow bytes at n b = every n (λ i. ltb (getD bytes (at + i) 0) b)
+unfoldable pub rowsBelow : ℕ → List ℕ → ℕ → ℕ → ℕ → Bool
+rowsBelow z bytes at n b = every n (λ i. ltb (rowValue z bytes (at + i)) b)
 
-unfoldable pub bytesFit : List ℕ → List StoredCell → Bool
-bytesFit bytes cs =
+unfoldable pub bytesFit : ℕ → List ℕ → List StoredCell → Bool
+bytesFit z bytes cs =
     every (length cs)
-    (λ k. rowsBelow bytes (sum k (λ j. rows (sizeOf (getD cs j noCell)))) (rows (sizeOf (getD cs k noCell))) (2 ^ sizeOf (getD cs k noCell) .outputs))
+    (λ k. rowsBelow z bytes (sum k (λ j. rows (sizeOf (getD cs j noCell)))) (rows (sizeOf (getD cs k noCell))) (2 ^ sizeOf (getD cs k noCell) .outputs))
 
 and-true : (a : Bool) → (a && true) ≡ a
 and-true true = refl
@@ -136,14 +137,14 @@ module _ (cs : List StoredCell) (c : StoredCell) where
   pub latest : getD (cs ++ (c ∷ [])) (length cs) noCell ≡ c
   latest = getD-at cs c [] noCell (length cs) refl
 
-  pub fit-one-more : fitAll (cs ++ (c ∷ [])) ≡ (fitAll cs && sizeFits c)
+  pub fit-one-more : (z : ℕ) → fitAll z (cs ++ (c ∷ [])) ≡ (fitAll z cs && sizeFits z c)
   unfolding fitAll
-  fit-one-more =
-      ap (λ (n : ℕ). every n (λ k. sizeFits (getD (cs ++ (c ∷ [])) k noCell))) longer
+  fit-one-more z =
+      ap (λ (n : ℕ). every n (λ k. sizeFits z (getD (cs ++ (c ∷ [])) k noCell))) longer
       ∙ ap₂ _&&_
-      (every-ext (λ k. sizeFits (getD (cs ++ (c ∷ [])) k noCell)) (λ k. sizeFits (getD cs k noCell)) (length cs)
-      (λ k l. ap sizeFits (earlier k l)))
-      (ap sizeFits latest)
+      (every-ext (λ k. sizeFits z (getD (cs ++ (c ∷ [])) k noCell)) (λ k. sizeFits z (getD cs k noCell)) (length cs)
+      (λ k l. ap (sizeFits z) (earlier k l)))
+      (ap (sizeFits z) latest)
 
   pub rows-one-more : rowSum (cs ++ (c ∷ [])) ≡ rowSum cs + rows (sizeOf c)
   unfolding rowSum
@@ -154,8 +155,8 @@ module _ (cs : List StoredCell) (c : StoredCell) where
       (λ k l. ap (λ (d : StoredCell). rows (sizeOf d)) (earlier k l)))
       (ap (λ (d : StoredCell). rows (sizeOf d)) latest)
 
-module _ (bytes : List ℕ) (cs : List StoredCell) (c : StoredCell) where
-  pub bytes-one-more : bytesFit bytes (cs ++ (c ∷ [])) ≡ (bytesFit bytes cs && rowsBelow bytes (rowSum cs) (rows (sizeOf c)) (2 ^ sizeOf c .outputs))
+module _ (z : ℕ) (bytes : List ℕ) (cs : List StoredCell) (c : StoredCell) where
+  pub bytes-one-more : bytesFit z bytes (cs ++ (c ∷ [])) ≡ (bytesFit z bytes cs && rowsBelow z bytes (rowSum cs) (rows (sizeOf c)) (2 ^ sizeOf c .outputs))
   unfolding bytesFit rowSum
   bytes-one-more =
       ap (λ (n : ℕ). every n (at (cs ++ (c ∷ [])))) (longer cs c)
@@ -163,27 +164,27 @@ module _ (bytes : List ℕ) (cs : List StoredCell) (c : StoredCell) where
       (same (length cs) (omega arith) _ _ (latest cs c))
     where
       at : List StoredCell → ℕ → Bool
-      at ds k = rowsBelow bytes (sum k (λ j. rows (sizeOf (getD ds j noCell)))) (rows (sizeOf (getD ds k noCell))) (2 ^ sizeOf (getD ds k noCell) .outputs)
+      at ds k = rowsBelow z bytes (sum k (λ j. rows (sizeOf (getD ds j noCell)))) (rows (sizeOf (getD ds k noCell))) (2 ^ sizeOf (getD ds k noCell) .outputs)
 
       same : (k : ℕ) → k ≤ length cs → (d e : StoredCell) → d ≡ e
-          → rowsBelow bytes (sum k (λ j. rows (sizeOf (getD (cs ++ (c ∷ [])) j noCell)))) (rows (sizeOf d)) (2 ^ sizeOf d .outputs)
-          ≡ rowsBelow bytes (sum k (λ j. rows (sizeOf (getD cs j noCell)))) (rows (sizeOf e)) (2 ^ sizeOf e .outputs)
+          → rowsBelow z bytes (sum k (λ j. rows (sizeOf (getD (cs ++ (c ∷ [])) j noCell)))) (rows (sizeOf d)) (2 ^ sizeOf d .outputs)
+          ≡ rowsBelow z bytes (sum k (λ j. rows (sizeOf (getD cs j noCell)))) (rows (sizeOf e)) (2 ^ sizeOf e .outputs)
       same k l d e p =
-          ap₂ (λ (s : ℕ) (q : StoredCell). rowsBelow bytes s (rows (sizeOf q)) (2 ^ sizeOf q .outputs))
+          ap₂ (λ (s : ℕ) (q : StoredCell). rowsBelow z bytes s (rows (sizeOf q)) (2 ^ sizeOf q .outputs))
           (sum-ext (λ j. rows (sizeOf (getD (cs ++ (c ∷ [])) j noCell))) (λ j. rows (sizeOf (getD cs j noCell))) k
           (λ j h. ap (λ (q : StoredCell). rows (sizeOf q)) (earlier cs c j (omega arith)))) p
 
 -- one record more
 module _ (R : List ℕ) (i : ℕ) where
-  pub fit-next : fitAll (cellsTo R (i + 1))
-      ≡ (fitAll (cellsTo R i) && cond (eqb (cutByte R i) 1) (fits largestInputs largestOutputs (cell (endInputs R i) (endOutputs R i))) true)
-  fit-next = ap fitAll (next-ended R i) ∙ by (eqb (cutByte R i) 1)
+  pub fit-next : (z : ℕ) → fitAll z (cellsTo R (i + 1))
+      ≡ (fitAll z (cellsTo R i) && cond (eqb (cutByte R i) 1) (fits largestInputs (outputsIn z) (cell (endInputs R i) (endOutputs R i))) true)
+  fit-next z = ap (fitAll z) (next-ended R i) ∙ by (eqb (cutByte R i) 1)
     where
-      by : (b : Bool) → fitAll (cond b (cellsTo R i ++ (endedCell R i ∷ [])) (cellsTo R i))
-          ≡ (fitAll (cellsTo R i) && cond b (fits largestInputs largestOutputs (cell (endInputs R i) (endOutputs R i))) true)
+      by : (b : Bool) → fitAll z (cond b (cellsTo R i ++ (endedCell R i ∷ [])) (cellsTo R i))
+          ≡ (fitAll z (cellsTo R i) && cond b (fits largestInputs (outputsIn z) (cell (endInputs R i) (endOutputs R i))) true)
       by true =
-          fit-one-more (cellsTo R i) (endedCell R i) ∙ ap (λ (d : Cell). fitAll (cellsTo R i) && fits largestInputs largestOutputs d) (ended-size R i)
-      by false = sym (and-true (fitAll (cellsTo R i)))
+          fit-one-more (cellsTo R i) (endedCell R i) z ∙ ap (λ (d : Cell). fitAll z (cellsTo R i) && fits largestInputs (outputsIn z) d) (ended-size R i)
+      by false = sym (and-true (fitAll z (cellsTo R i)))
 
   pub rows-next : rowSum (cellsTo R (i + 1)) ≡ rowSum (cellsTo R i) + cond (eqb (cutByte R i) 1) (2 ^ endInputs R i) 0
   unfolding rows
@@ -194,43 +195,43 @@ module _ (R : List ℕ) (i : ℕ) where
       by true = rows-one-more (cellsTo R i) (endedCell R i) ∙ ap (λ (d : Cell). rowSum (cellsTo R i) + rows d) (ended-size R i)
       by false = sym (add-zero (rowSum (cellsTo R i)))
 
-  pub bytes-next : (bytes : List ℕ) → bytesFit bytes (cellsTo R (i + 1))
-      ≡ (bytesFit bytes (cellsTo R i) && cond (eqb (cutByte R i) 1) (rowsBelow bytes (rowSum (cellsTo R i)) (2 ^ endInputs R i) (2 ^ endOutputs R i)) true)
+  pub bytes-next : (z : ℕ) (bytes : List ℕ) → bytesFit z bytes (cellsTo R (i + 1))
+      ≡ (bytesFit z bytes (cellsTo R i) && cond (eqb (cutByte R i) 1) (rowsBelow z bytes (rowSum (cellsTo R i)) (2 ^ endInputs R i) (2 ^ endOutputs R i)) true)
   unfolding rows
-  bytes-next bytes = ap (bytesFit bytes) (next-ended R i) ∙ by (eqb (cutByte R i) 1)
+  bytes-next z bytes = ap (bytesFit z bytes) (next-ended R i) ∙ by (eqb (cutByte R i) 1)
     where
-      by : (b : Bool) → bytesFit bytes (cond b (cellsTo R i ++ (endedCell R i ∷ [])) (cellsTo R i))
-          ≡ (bytesFit bytes (cellsTo R i) && cond b (rowsBelow bytes (rowSum (cellsTo R i)) (2 ^ endInputs R i) (2 ^ endOutputs R i)) true)
+      by : (b : Bool) → bytesFit z bytes (cond b (cellsTo R i ++ (endedCell R i ∷ [])) (cellsTo R i))
+          ≡ (bytesFit z bytes (cellsTo R i) && cond b (rowsBelow z bytes (rowSum (cellsTo R i)) (2 ^ endInputs R i) (2 ^ endOutputs R i)) true)
       by true =
-          bytes-one-more bytes (cellsTo R i) (endedCell R i)
-          ∙ ap (λ (d : Cell). bytesFit bytes (cellsTo R i) && rowsBelow bytes (rowSum (cellsTo R i)) (rows d) (2 ^ d .outputs)) (ended-size R i)
-      by false = sym (and-true (bytesFit bytes (cellsTo R i)))
+          bytes-one-more z bytes (cellsTo R i) (endedCell R i)
+          ∙ ap (λ (d : Cell). bytesFit z bytes (cellsTo R i) && rowsBelow z bytes (rowSum (cellsTo R i)) (rows d) (2 ^ d .outputs)) (ended-size R i)
+      by false = sym (and-true (bytesFit z bytes (cellsTo R i)))
 
 -- no record read; all records read
-pub begin : (R : List ℕ) → (fitAll (cellsTo R 0) ≡ true) × (rowSum (cellsTo R 0) ≡ 0)
+pub begin : (z : ℕ) (R : List ℕ) → (fitAll z (cellsTo R 0) ≡ true) × (rowSum (cellsTo R 0) ≡ 0)
     × (begunIns R 0 ≡ 0) × (begunOuts R 0 ≡ 0) × (reading R 0 .upper ≡ 0)
 unfolding fitAll rowSum reading
-begin R = (refl, refl, refl, refl, refl)
+begin z R = (refl, refl, refl, refl, refl)
 
-pub bytes-begin : (bytes R : List ℕ) → bytesFit bytes (cellsTo R 0) ≡ true
+pub bytes-begin : (z : ℕ) (bytes R : List ℕ) → bytesFit z bytes (cellsTo R 0) ≡ true
 unfolding bytesFit reading
-bytes-begin bytes R = refl
+bytes-begin z bytes R = refl
 
-pub fit-all : (R : List ℕ) → fitAll (cellsTo R (recordCount R)) ≡ every (cellCount R) (cellFormed R)
-unfolding fitAll cellCount cellFormed cellAt storedCells
-fit-all R = refl
+pub fit-all : (z : ℕ) (R : List ℕ) → fitAll z (cellsTo R (recordCount R)) ≡ every (cellCount R) (cellFormedAs z R)
+unfolding fitAll cellCount cellFormedAs cellAt storedCells
+fit-all z R = refl
 
 pub rows-all : (R : List ℕ) → rowSum (cellsTo R (recordCount R)) ≡ rowCount R
 unfolding rowSum rowCount rowsBefore cellCount cellAt storedCells
 rows-all R = refl
 
-pub bytes-all : (bytes R : List ℕ) → bytesFit bytes (cellsTo R (recordCount R)) ≡ every (cellCount R) (rowsFormed R bytes)
-unfolding bytesFit rowsBelow rowsFormed rowsBefore cellCount cellAt storedCells
-bytes-all bytes R = refl
+pub bytes-all : (z : ℕ) (bytes R : List ℕ) → bytesFit z bytes (cellsTo R (recordCount R)) ≡ every (cellCount R) (rowsFormedAs z R bytes)
+unfolding bytesFit rowsBelow rowsFormedAs rowsBefore cellCount cellAt storedCells
+bytes-all z bytes R = refl
 
 -- the cell begun is small
 pub begun-few : (R : List ℕ) (i : ℕ) → (begunIns R i ≤ i) × (begunOuts R i ≤ i)
-begun-few R zero = let z = begin R in (omega (arith, z .2), omega (arith, z .3))
+begun-few R zero = let b = begin 0 R in (omega (arith, b .2), omega (arith, b .3))
 begun-few R (suc i) =
     let h = begun-few R i in
     let e : begunIns R (suc i) ≡ cond (eqb (cutByte R i) 1) 0 (moreIns R i) = ap (begunIns R) (sym (add-one i)) ∙ next-ins R i in
@@ -245,13 +246,13 @@ begun-few R (suc i) =
     by false false h = (omega arith, omega arith)
 
 -- where all cells fit, those ended fit
-pub fit-fewer : (R : List ℕ) (i n : ℕ) → i ≤ n → fitAll (cellsTo R n) ≡ true → fitAll (cellsTo R i) ≡ true
-fit-fewer R i zero l h = let e : i ≡ 0 = omega arith in ap (λ (k : ℕ). fitAll (cellsTo R k)) e ∙ h
-fit-fewer R i (suc n) l h =
-    last-or-below i (suc n) (omega arith) (λ e. ap (λ (k : ℕ). fitAll (cellsTo R k)) e ∙ h)
+pub fit-fewer : (z : ℕ) (R : List ℕ) (i n : ℕ) → i ≤ n → fitAll z (cellsTo R n) ≡ true → fitAll z (cellsTo R i) ≡ true
+fit-fewer z R i zero l h = let e : i ≡ 0 = omega arith in ap (λ (k : ℕ). fitAll z (cellsTo R k)) e ∙ h
+fit-fewer z R i (suc n) l h =
+    last-or-below i (suc n) (omega arith) (λ e. ap (λ (k : ℕ). fitAll z (cellsTo R k)) e ∙ h)
     (λ k.
-    let f = sym (fit-next R n) ∙ ap (λ (q : ℕ). fitAll (cellsTo R q)) (add-one n) ∙ h in
-    fit-fewer R i n (omega arith) (and-split (fitAll (cellsTo R n)) _ f .0))
+    let f = sym (fit-next R n z) ∙ ap (λ (q : ℕ). fitAll z (cellsTo R q)) (add-one n) ∙ h in
+    fit-fewer z R i n (omega arith) (and-split (fitAll z (cellsTo R n)) _ f .0))
 
 pub rows-rise : (R : List ℕ) (i n : ℕ) → i ≤ n → rowSum (cellsTo R i) ≤ rowSum (cellsTo R n)
 rows-rise R i zero l = let e : i ≡ 0 = omega arith in let f = ap (λ (k : ℕ). rowSum (cellsTo R k)) e in omega (arith, f)
@@ -263,14 +264,14 @@ rows-rise R i (suc n) l =
     omega (arith, f, h))
 
 -- a cell that fits
-module _ (R : List ℕ) (fit : every (cellCount R) (cellFormed R) ≡ true) (i : ℕ) (l : i < recordCount R) (c : cutByte R i ≡ 1) where
-  pub cell-small : (endInputs R i ≤ largestInputs) × (endOutputs R i ≤ largestOutputs)
+module _ (z : ℕ) (R : List ℕ) (fit : every (cellCount R) (cellFormedAs z R) ≡ true) (i : ℕ) (l : i < recordCount R) (c : cutByte R i ≡ 1) where
+  pub cell-small : (endInputs R i ≤ largestInputs) × (endOutputs R i ≤ outputsIn z)
   cell-small =
       let size : Cell = cell (endInputs R i) (endOutputs R i) in
-      let a = fit-fewer R (i + 1) (recordCount R) (omega arith) (fit-all R ∙ fit) in
-      let b = and-split (fitAll (cellsTo R i)) _ (sym (fit-next R i) ∙ a) .1 in
-      let d = sym (cond-yes (eqb (cutByte R i) 1) (fits largestInputs largestOutputs size) true (eq-eqb (cutByte R i) 1 c)) ∙ b in
-      fits-split largestInputs largestOutputs size d
+      let a = fit-fewer z R (i + 1) (recordCount R) (omega arith) (fit-all z R ∙ fit) in
+      let b = and-split (fitAll z (cellsTo R i)) _ (sym (fit-next R i z) ∙ a) .1 in
+      let d = sym (cond-yes (eqb (cutByte R i) 1) (fits largestInputs (outputsIn z) size) true (eq-eqb (cutByte R i) 1 c)) ∙ b in
+      fits-split largestInputs (outputsIn z) size d
 
   pub cell-inside : rowSum (cellsTo R i) + 2 ^ endInputs R i ≤ rowCount R
   cell-inside =

@@ -6,11 +6,13 @@ use mathlib.Core.List.{List}
 use Prim.Native.Nat.{ℕ, _-_, _*_, _≤_, _<_}
 use lib.Dec.{eqb, leb}
 use lib.ListN.{length}
-use borrow.Author.Tests.{eqb-true, leb-true}
+use native.Mathlib.Omega.{arith}
+use borrow.Author.Tests.{eqb-true, leb-true, le-leb}
 use Rattle.laws.specs.Tests.{every, within}
-use Rattle.laws.proofs.Cases.{and-split}
-use Rattle.laws.proofs.Tests.{every-at}
-use Rattle.stored_spec.specs.StoredForm.{recordCount, cutByte, railByte, recordFormed, cellCount, cellFormed, rowCount, recordsFormed}
+use Rattle.laws.proofs.Cases.{and-split, and-join}
+use Rattle.laws.proofs.Tests.{every-of, every-at}
+use Rattle.stored_spec.specs.Cells.{fits}
+use Rattle.stored_spec.specs.StoredForm.{recordCount, cutByte, railByte, recordFormed, cellCount, cellAt, sizeOf, cellFormedAs, rowCount, recordsFormedAs}
 
 -- whole records, 1 to 20 of them
 pub shape-has : (R : List ℕ) → (eqb (length R) (recordCount R * 4) && within 1 20 (recordCount R)) ≡ true
@@ -21,21 +23,21 @@ shape-has R e =
     (eqb-true (length R) (recordCount R * 4) (a .0), leb-true 1 (recordCount R) (b .0), leb-true (recordCount R) 20 (b .1))
 
 -- the parts of the test of records
-pub record RecordsHave (R : List ℕ) : Type 0 where
+pub record RecordsHave (z : ℕ) (R : List ℕ) : Type 0 where
   pub whole : length R ≡ recordCount R * 4
   pub some : 1 ≤ recordCount R
   pub few : recordCount R ≤ 20
   pub each : (i : ℕ) → i < recordCount R → recordFormed R i ≡ true
   pub last : cutByte R (recordCount R - 1) ≡ 1
   pub ends : railByte R (recordCount R - 1) ≡ 0
-  pub cells : every (cellCount R) (cellFormed R) ≡ true
+  pub cells : every (cellCount R) (cellFormedAs z R) ≡ true
   pub rows : rowCount R ≤ 32768
 
-pub records-have : (R : List ℕ) → recordsFormed R ≡ true → RecordsHave R
-unfolding recordsFormed
-records-have R e =
+pub records-have : (z : ℕ) (R : List ℕ) → recordsFormedAs z R ≡ true → RecordsHave z R
+unfolding recordsFormedAs
+records-have z R e =
     let g = and-split _ (leb (rowCount R) 32768) e in
-    let f = and-split _ (every (cellCount R) (cellFormed R)) (g .0) in
+    let f = and-split _ (every (cellCount R) (cellFormedAs z R)) (g .0) in
     let d = and-split _ (eqb (railByte R (recordCount R - 1)) 0) (f .0) in
     let c = and-split _ (eqb (cutByte R (recordCount R - 1)) 1) (d .0) in
     let b = and-split _ (every (recordCount R) (recordFormed R)) (c .0) in
@@ -50,6 +52,16 @@ records-have R e =
       cells = f .1;
       rows = leb-true (rowCount R) 32768 (g .1);
     }
+
+-- cells that fit in rows of z bytes fit in longer rows
+pub fit-more : (z y : ℕ) (R : List ℕ) → z ≤ y → every (cellCount R) (cellFormedAs z R) ≡ true → every (cellCount R) (cellFormedAs y R) ≡ true
+unfolding cellFormedAs fits
+fit-more z y R l e =
+    every-of (cellFormedAs y R) (cellCount R)
+    (λ k h.
+    let c = sizeOf (cellAt R k) in
+    let (i, o) = and-split (leb (c .inputs) 12) (leb (c .outputs) (8 * z)) (every-at (cellFormedAs z R) (cellCount R) e k h) in
+    and-join i (le-leb (c .outputs) (8 * y) (omega (arith, leb-true (c .outputs) (8 * z) o))))
 
 -- five tests, of which the fourth is made first
 module _ (a b c d e : Bool) where

@@ -4,9 +4,10 @@
 use Prim.Native.Nat.{ℕ, zero, suc, _+_, _*_, _/_, _%_, _^_}
 use mathlib.Core.Path.{_≡_}
 use mathlib.Core.List.{List, [], _∷_}
-use lib.ListN.{length, getD, set, replicate}
+use lib.ListN.{length, set, replicate}
 use Rattle.laws.specs.Bits.{bit}
 use Rattle.sheet_spec.specs.Limits.{mostOutputs}
+use Rattle.stored_spec.specs.RowBytes.{twoBytes, rowValue}
 use Rattle.stored_spec.specs.StoredForm.{StoredCell, cellAt, rowsBefore}
 
 -- row address: the rail word r, then the cell's inputs in the word w, topmost variable most significant
@@ -44,11 +45,17 @@ pub record Running : Type 0 where
   pub rail : ℕ
   pub outputs : List ℕ
 
-unfoldable pub ranOne : List ℕ → List ℕ → ℕ → ℕ → Running → Running
-ranOne R bytes w k s =
-    let x = getD bytes (rowPlace R k (s .rail) w) 0 in
-    record { rail = railAfter (cellAt R k) x; outputs = outputsAfter (cellAt R k) (s .outputs) x }
+-- where the row at place p has the value f p
+module _ (f : ℕ → ℕ) where
+  unfoldable pub ranOneBy : List ℕ → ℕ → ℕ → Running → Running
+  ranOneBy R w k s =
+      let x = f (rowPlace R k (s .rail) w) in
+      record { rail = railAfter (cellAt R k) x; outputs = outputsAfter (cellAt R k) (s .outputs) x }
 
-unfoldable pub run : List ℕ → List ℕ → ℕ → ℕ → Running
-run R bytes w zero = record { rail = 0; outputs = unset }
-run R bytes w (suc k) = ranOne R bytes w k (run R bytes w k)
+  unfoldable pub runBy : List ℕ → ℕ → ℕ → Running
+  runBy R w zero = record { rail = 0; outputs = unset }
+  runBy R w (suc k) = ranOneBy R w k (runBy R w k)
+
+-- over row bytes
+abbrev pub run : List ℕ → List ℕ → ℕ → ℕ → Running
+run R bytes w k = runBy (rowValue twoBytes bytes) R w k

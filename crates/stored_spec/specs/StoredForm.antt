@@ -10,8 +10,9 @@ use Rattle.sheet_spec.specs.Job.{Job, t, varAt, isInput}
 use Rattle.stored_spec.specs.Rails.{railsAt}
 use lib.ListN.{length, getD}
 use Rattle.laws.specs.Tests.{every, sum, within}
-use Rattle.sheet_spec.specs.Limits.{mostVariables, largestInputs, largestOutputs, mostRows}
+use Rattle.sheet_spec.specs.Limits.{mostVariables, largestInputs, mostRows}
 use Rattle.stored_spec.specs.Cells.{Cell, cell, rows, fits}
+use Rattle.stored_spec.specs.RowBytes.{twoBytes, outputsIn, rowValue, room}
 
 abbrev pub member : ℕ → List ℕ → Bool
 member x [] = false
@@ -114,25 +115,38 @@ recordFormed R i =
     && eqb (lastByte R i) 0
     && every i (λ k. not (eqb (variable R k) (variable R i)))
 
--- cells of at most 12 inputs and 8 outputs
-unfoldable pub cellFormed : List ℕ → ℕ → Bool
-cellFormed R k = fits largestInputs largestOutputs (sizeOf (cellAt R k))
+-- in the form with z bytes a row
+module _ (z : ℕ) where
+  -- cells of at most 12 inputs, and of no more outputs than a row has bits
+  unfoldable pub cellFormedAs : List ℕ → ℕ → Bool
+  cellFormedAs R k = fits largestInputs (outputsIn z) (sizeOf (cellAt R k))
 
--- the records are well formed: 1 to 20 of them, a last cut with 0 rails, rows at most 32,768
-unfoldable pub recordsFormed : List ℕ → Bool
-recordsFormed R =
-    eqb (length R) (recordCount R * 4) && within 1 mostVariables (recordCount R) && every (recordCount R) (recordFormed R)
-    && eqb (cutByte R (recordCount R - 1)) 1
-    && eqb (railByte R (recordCount R - 1)) 0
-    && every (cellCount R) (cellFormed R)
-    && leb (rowCount R) mostRows
+  -- the records are well formed: 1 to 20 of them, a last cut with 0 rails, rows at most 32,768
+  unfoldable pub recordsFormedAs : List ℕ → Bool
+  recordsFormedAs R =
+      eqb (length R) (recordCount R * 4) && within 1 mostVariables (recordCount R) && every (recordCount R) (recordFormed R)
+      && eqb (cutByte R (recordCount R - 1)) 1
+      && eqb (railByte R (recordCount R - 1)) 0
+      && every (cellCount R) (cellFormedAs R)
+      && leb (rowCount R) mostRows
 
--- each row of cell k is below 2^outputs
-unfoldable pub rowsFormed : List ℕ → List ℕ → ℕ → Bool
-rowsFormed R bytes k =
-    let c = sizeOf (cellAt R k) in
-    every (rows c) (λ i. ltb (getD bytes (rowsBefore R k + i) 0) (2 ^ c .outputs))
+  -- each row of cell k is below 2^outputs
+  unfoldable pub rowsFormedAs : List ℕ → List ℕ → ℕ → Bool
+  rowsFormedAs R bytes k =
+      let c = sizeOf (cellAt R k) in
+      every (rows c) (λ i. ltb (rowValue z bytes (rowsBefore R k + i)) (2 ^ c .outputs))
 
--- well formed: rows equal in number to the row bytes, and each below 2^outputs
-unfoldable pub wellFormed : List ℕ → List ℕ → Bool
-wellFormed R bytes = recordsFormed R && eqb (length bytes) (rowCount R) && every (cellCount R) (rowsFormed R bytes)
+  -- well formed: as many row bytes as the rows take, and each row below 2^outputs
+  unfoldable pub wellFormedAs : List ℕ → List ℕ → Bool
+  wellFormedAs R bytes =
+      recordsFormedAs R && eqb (length bytes) (room z (rowCount R)) && every (cellCount R) (rowsFormedAs R bytes)
+
+-- in the form of today, with two bytes a row
+abbrev pub cellFormed : List ℕ → ℕ → Bool
+cellFormed R k = cellFormedAs twoBytes R k
+
+abbrev pub recordsFormed : List ℕ → Bool
+recordsFormed R = recordsFormedAs twoBytes R
+
+abbrev pub wellFormed : List ℕ → List ℕ → Bool
+wellFormed R bytes = wellFormedAs twoBytes R bytes

@@ -3,8 +3,10 @@ ghost use mathlib.Core.Path.{_≡_};
 ghost use Rattle.stored_spec.specs.Cells.{fits, usableRows, usableBits};
 use sheet_spec::MOST_VARIABLES;
 
-// The rows that count as usable, and the bytes of the longest records.
+// The rows that count as usable, their bytes, and the bytes of the longest records.
 pub const MOST_ROWS: usize = 32768;
+
+pub const MOST_ROW_BYTES: usize = MOST_ROWS * 2;
 
 pub const MOST_RECORD_BYTES: usize = MOST_VARIABLES * 4;
 
@@ -18,7 +20,7 @@ impl Cell {
     // The largest cell.
     pub const MAX_INPUTS: usize = 12;
 
-    pub const MAX_OUTPUTS: usize = 8;
+    pub const MAX_OUTPUTS: usize = 16;
 
     // It has at most so many inputs and outputs.
     pub fn fits(self, inputs: usize, outputs: usize) -> bool

@@ -12,9 +12,10 @@ use Rattle.laws.specs.Lists.{putsAt, written}
 use Rattle.laws.specs.Tests.{every}
 use Rattle.laws.proofs.Cases.{cond-yes, cond-no, and-split, or-split}
 use Rattle.laws.proofs.Puts.{copied-at}
-use Rattle.stored_spec.specs.StoredForm.{wellFormed, recordsFormed, rowsFormed, recordCount, cellCount, rowCount}
+use Rattle.stored_spec.specs.RowBytes.{twoBytes, room}
+use Rattle.stored_spec.specs.StoredForm.{wellFormed, recordsFormed, recordCount, cellCount, rowCount}
 use Rattle.stored.specs.Reads.{rowsCounted}
-use Rattle.stored_spec.proofs.Promises.{records-have}
+use Rattle.stored_spec.proofs.Promises.{records-have, formed-parts, room-two}
 use Rattle.stored.proofs.Promises.{cells-all, cells-few, formed-fit, rows-counted}
 use Rattle.bank_spec.specs.State.{State, cellsBefore, rowsBefore, cellsHeld, rowsHeld, bankFormed, scanFormed, formed, atRest, emptyBank, limitRefused, stateOf}
 use Rattle.bank_spec.specs.declared.Bank.{Bank}
@@ -62,21 +63,19 @@ pub record BlockHas (R bytes : List ℕ) : Type 0 where
   pub cells : cellCount R ≤ 20
   pub counted : rowsCounted R ≡ rowCount R
   pub few : rowsCounted R ≤ 32768
-  pub rows : length bytes ≡ rowsCounted R
+  pub rows : length bytes ≡ rowsCounted R * 2
 
 pub block-has : (R bytes : List ℕ) → wellFormed R bytes ≡ true → BlockHas R bytes
-unfolding wellFormed
 block-has R bytes e =
-    let a = and-split _ (every (cellCount R) (rowsFormed R bytes)) e in
-    let b = and-split (recordsFormed R) (eqb (length bytes) (rowCount R)) (a .0) in
-    let h = records-have R (b .0) in
-    let c = rows-counted R (formed-fit R (b .0)) in
+    let (b, many, each) = formed-parts twoBytes R bytes e in
+    let h = records-have twoBytes R b in
+    let c = rows-counted R (formed-fit R b) in
     record {
       size = omega (arith, h .whole, h .few);
       cells = omega (arith, cells-all R, cells-few R (recordCount R), h .few);
       counted = sym c;
       few = omega (arith, c, h .rows);
-      rows = eqb-true (length bytes) (rowCount R) (b .1) ∙ c;
+      rows = many ∙ room-two (rowCount R) ∙ ap (λ (n : ℕ). n * 2) c;
     }
 
 module _ (k : Bank) (s : Scan) (rows R bytes : List ℕ) where
@@ -121,13 +120,14 @@ module _ (k : Bank) (s : Scan) (rows R bytes : List ℕ) where
         rows-are = ap₂ (λ (x y : ℕ). x + y) (u ∙ ap (rowsBefore k) p) (v ∙ block-has R bytes w .counted)
 
         abbrev short : ℕ → Bool
-        short m = ltb (length rows) m || ltb 32768 m
+        short m = ltb (length rows) (m * 2) || ltb 32768 m
 
         past-14 : admitRefusal held R bytes ≡ cond (short (a + r)) 11 0
         unfolding admitRefusal
         past-14 =
             rw (f, w, lt-leb 8 (k .count) (omega (arith, p, h)), le-ltb (k .limit) (cellsHeld k + cellCount R) (omega (arith, cells-are, l)))
-            (ap (λ (m : ℕ). cond (short m) 11 0) (sym rows-are))
+            (ap (λ (x : ℕ). cond (ltb (length rows) x || ltb 32768 (rowsHeld k + rowCount R)) 11 0) (room-two (rowsHeld k + rowCount R))
+            ∙ ap (λ (m : ℕ). cond (short m) 11 0) (sym rows-are))
 
         -- 11
         pub admit-11 : short (a + r) ≡ true → givenNumber 11 k s rows ≡ admit held R bytes
@@ -135,15 +135,16 @@ module _ (k : Bank) (s : Scan) (rows R bytes : List ℕ) where
         admit-11 e = answered 11 (past-14 ∙ cond-yes (short (a + r)) 11 0 e)
 
         module _ (e : short (a + r) ≡ false) where
-          pub rows-fit : a + length bytes ≤ length rows
+          pub rows-fit : a * 2 + length bytes ≤ length rows
           rows-fit =
-              let o = or-split (ltb (length rows) (a + r)) (ltb 32768 (a + r)) e in
-              omega (arith, ltb-false (length rows) (a + r) (o .0), v, block-has R bytes w .rows)
+              let o = or-split (ltb (length rows) ((a + r) * 2)) (ltb 32768 (a + r)) e in
+              omega (arith, ltb-false (length rows) ((a + r) * 2) (o .0), v, block-has R bytes w .rows)
 
           -- none
           pub admit-accepts : {k′ : Bank} {s′ : Scan} {rows′ : List ℕ} → k′ ≡ withBlock k R → s′ ≡ atRest
-              → rows′ ≡ putsAt a (length bytes) (λ i. getD bytes i 0) rows → givenNumber 0 k′ s′ rows′ ≡ admit held R bytes
+              → rows′ ≡ putsAt (a * 2) (length bytes) (λ i. getD bytes i 0) rows → givenNumber 0 k′ s′ rows′ ≡ admit held R bytes
           unfolding numbered admitted
           admit-accepts x y z =
-              let rest : _ = z ∙ copied-at rows a bytes rows-fit ∙ ap (λ (i : ℕ). written rows i bytes) (u ∙ ap (rowsBefore k) p) in
+              let rest : _ = z ∙ copied-at rows (a * 2) bytes rows-fit
+              ∙ ap (λ (i : ℕ). written rows i bytes) (ap (λ (n : ℕ). n * 2) (u ∙ ap (rowsBefore k) p) ∙ sym (room-two (rowsHeld k))) in
               (λ i. givenNumber 0 (x i) (y i) (rest i)) ∙ answered 0 (past-14 ∙ cond-no (short (a + r)) 11 0 e)

@@ -13,6 +13,7 @@ use Rattle.laws.specs.Tests.{every, within}
 use Rattle.laws.proofs.Cases.{and-split}
 use Rattle.laws.proofs.Tests.{every-at, within-yes, within-low, within-high, within-has}
 use Rattle.laws.proofs.Counts.{sum-next}
+use Rattle.stored_spec.specs.RowBytes.{twoBytes}
 use Rattle.stored_spec.specs.StoredForm.{recordsFormed, recordCount, cellCount, cellAt, rowCount}
 use Rattle.stored.specs.Reads.{rowsCounted, cellRails}
 use Rattle.stored.specs.declared.CellRails.{CellRails}
@@ -58,10 +59,10 @@ module _ (k : Bank) (b : ℕ) where
     pub cells-at-most : cellCount (recordsOf k b) ≤ 20
     cells-at-most =
         let R = recordsOf k b in
-        omega (arith, cells-all R, cells-few R (recordCount R), records-have R records-well .few)
+        omega (arith, cells-all R, cells-few R (recordCount R), records-have twoBytes R records-well .few)
 
     pub rows-at-most : rowCount (recordsOf k b) ≤ 32768
-    rows-at-most = records-have (recordsOf k b) records-well .rows
+    rows-at-most = records-have twoBytes (recordsOf k b) records-well .rows
 
     pub rows-are : rowsCounted (recordsOf k b) ≡ rowCount (recordsOf k b)
     rows-are = sym (rows-counted (recordsOf k b) (formed-fit (recordsOf k b) records-well))

@@ -80,7 +80,7 @@ module _ (k : Bank) (s : Scan) (e : formed k s ≡ true) (on : s .running ≡ tr
   rows-there : rowsTold records (s .cell) ≡ true
   rows-there = rows-told records (s .cell) cell-there
 
-  pub few-lower : cellAt records (s .cell) .lower ≤ 8
+  pub few-lower : cellAt records (s .cell) .lower ≤ 16
   few-lower = omega (arith, few-outs records (s .cell) rows-there)
 
   -- the records lent, of block b

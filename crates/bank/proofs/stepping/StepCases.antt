@@ -9,6 +9,7 @@ use lib.Dec.{ltb}
 use lib.ListN.{length}
 use Rattle.laws.specs.Lists.{written}
 use Rattle.laws.proofs.Cases.{cond-no}
+use Rattle.stored_spec.specs.RowBytes.{twoBytes, room}
 use Rattle.stored_spec.specs.StoredForm.{cellCount, cellAt}
 use Rattle.stored_spec.specs.Run.{outputsAfter, railAfter}
 use Rattle.bank_spec.specs.declared.Bank.{Bank}
@@ -47,16 +48,16 @@ module _ (k : Bank) (s : Scan) (rows : List ℕ) where
     no-scan h = rw (e, h) refl
 
     module _ (on : s .running ≡ true) where
-      pub few-rows : length rows < rowsHeld k → givenAnswer (Refused 11) k s rows ≡ step (stateOf k s rows)
+      pub few-rows : length rows < room twoBytes (rowsHeld k) → givenAnswer (Refused 11) k s rows ≡ step (stateOf k s rows)
       unfolding step answerOf
-      few-rows h = rw (e, on, lt-ltb (length rows) (rowsHeld k) h) refl
+      few-rows h = rw (e, on, lt-ltb (length rows) (room twoBytes (rowsHeld k)) h) refl
 
-      module _ (h : rowsHeld k ≤ length rows) where
+      module _ (h : room twoBytes (rowsHeld k) ≤ length rows) where
         read-made : step (stateOf k s rows) ≡ givenAnswer (Went (s .block) (s .cell)) k (moved k s (nextRow k s rows)) rows
         unfolding step answerOf
         read-made =
             cond-no (not (formed k s)) _ _ (ap not e) ∙ cond-no (not (s .running)) _ _ (ap not on)
-            ∙ cond-no (ltb (length rows) (rowsHeld k)) _ _ (le-ltb (length rows) (rowsHeld k) h)
+            ∙ cond-no (ltb (length rows) (room twoBytes (rowsHeld k))) _ _ (le-ltb (length rows) (room twoBytes (rowsHeld k)) h)
 
         pub one-read : {x : ℕ} {t : Scan} → x ≡ nextRow k s rows → t ≡ moved k s x
             → givenAnswer (Went (s .block) (s .cell)) k t rows ≡ step (stateOf k s rows)

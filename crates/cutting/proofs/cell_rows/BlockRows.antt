@@ -135,13 +135,13 @@ module _ (ws order : List ℕ) (bottom lower rails : ℕ) where
         ap₂ (λ (u q : ℕ). descend ws order bottom (k - 1) u y count q) (cond-no (eqb lo 0) hi lo t) (cond-no (eqb lo 0) (o * 2 + 1) (o * 2) t)
         ∙ descend-other ws order bottom k v y count o n p (bottom + (k - 1)) b refl is lo (descend ws order bottom (k - 1) lo y count (o * 2)) emits lo-is z refl))
 
-    -- a block that an output leads on, and one that an input splits; small says that the rows are bytes
-    module _ (x : ℕ) (small : (i : ℕ) → i < 2 ^ count → rowAt k v o count (x + i) < 256) where
+    -- a block that an output leads on, and one that an input splits; small says that the rows have 16 bits
+    module _ (x : ℕ) (small : (i : ℕ) → i < 2 ^ count → rowAt k v o count (x + i) < 65536) where
       module _ (next met : ℕ) (emits : b ≡ false) (next-is : next ≡ cond (eqb lo 0) hi lo) (met-is : met ≡ cond (eqb lo 0) (o * 2 + 1) (o * 2)) where
         led : (i : ℕ) → rowAt (k - 1) next met count (x + i) ≡ rowAt k v o count (x + i)
         led i = ap₂ (λ (u q : ℕ). rowAt (k - 1) u q count (x + i)) next-is met-is ∙ output-row (x + i) emits
 
-        pub led-small : (i : ℕ) → i < 2 ^ count → rowAt (k - 1) next met count (x + i) < 256
+        pub led-small : (i : ℕ) → i < 2 ^ count → rowAt (k - 1) next met count (x + i) < 65536
         led-small i h = omega (arith, led i, small i h)
 
         pub led-block : (l s : List ℕ) → s ≡ putsAt x (2 ^ count) (λ i. rowAt (k - 1) next met count (x + i)) l
@@ -164,10 +164,10 @@ module _ (ws order : List ℕ) (bottom lower rails : ℕ) where
             ap (λ (u : ℕ). rowAt (k - 1) u o (count - 1) y) (sym (cond-yes (has y (count - 1)) hi lo set))
             ∙ input-row y (count - 1) reads refl ∙ ap (λ (z : ℕ). rowAt k v o count z) same
 
-        pub first-small : (i : ℕ) → i < 2 ^ (count - 1) → rowAt (k - 1) lo o (count - 1) (x + i) < 256
+        pub first-small : (i : ℕ) → i < 2 ^ (count - 1) → rowAt (k - 1) lo o (count - 1) (x + i) < 65536
         first-small i l = omega (arith, first i l, small i (omega (arith, half-twice x count some)))
 
-        pub second-small : (i : ℕ) → i < 2 ^ (count - 1) → rowAt (k - 1) hi o (count - 1) (x + half + i) < 256
+        pub second-small : (i : ℕ) → i < 2 ^ (count - 1) → rowAt (k - 1) hi o (count - 1) (x + half + i) < 65536
         second-small i l = omega (arith, second i l, small (half + i) (omega (arith, half-is, half-twice x count some)))
 
         pub split-block : (l s s′ : List ℕ) → s ≡ putsAt x (2 ^ (count - 1)) (λ i. rowAt (k - 1) lo o (count - 1) (x + i)) l
@@ -197,8 +197,8 @@ module _ (ws order : List ℕ) (top bottom lower rails count v k : ℕ) (is : k 
       ∙ ap (rowFrom lower rails) (cond-ap (λ (i : ℕ). descend ws order bottom i v x count 0) (leb top 20) (top - bottom) 0)
 
   module _ (size : ℕ) (size-is : size ≡ 2 ^ count) where
-    pub node-small : ((x : ℕ) → x < size → nodeRow ws order top bottom lower rails count v x < 256)
-        → (i : ℕ) → i < 2 ^ count → rowAt ws order bottom lower rails k v 0 count (0 + i) < 256
+    pub node-small : ((x : ℕ) → x < size → nodeRow ws order top bottom lower rails count v x < 65536)
+        → (i : ℕ) → i < 2 ^ count → rowAt ws order bottom lower rails k v 0 count (0 + i) < 65536
     node-small small i h = omega (arith, node-row i, small i (omega (arith, size-is)))
 
     pub node-block : (a : ℕ) (l s : List ℕ) → a + size ≤ length l

@@ -44,10 +44,10 @@ module _ (words order : List ℕ) (top bottom upper width lower rails count : �
         ap (λ (z : ℕ). walked (width * z + i)) is
         ∙ cond-no (ltb (k / 2 ^ count) width) (ofNode (upper + k / 2 ^ count) (k % 2 ^ count)) 0 (le-ltb (k / 2 ^ count) width past)
 
-    -- a column's rows are bytes where all are
-    pub column-byte : ((i : ℕ) → i < width * size → walkedRow words order top bottom upper width lower rails count i < 256)
-        → (c v x : ℕ) → c < width → v ≡ upper + c → x < size → nodeRow words order top bottom lower rails count v x < 256
-    column-byte h c v x hc ev hx =
+    -- a column's rows have 16 bits where all have
+    pub column-small : ((i : ℕ) → i < width * size → walkedRow words order top bottom upper width lower rails count i < 65536)
+        → (c v x : ℕ) → c < width → v ≡ upper + c → x < size → nodeRow words order top bottom lower rails count v x < 65536
+    column-small h c v x hc ev hx =
         let all = h (c * size + x) (omega (arith, row-end c width size hc)) in
         omega (arith, ap (λ (k : ℕ). ofNode k x) ev, column-row c x hc hx)
 

@@ -1,5 +1,5 @@
 -- The rows of a cell are those that walks over the diagram make: a row holds the outputs met and the column reached. Each row of a cell with
--- at most 8 outputs is a byte.
+-- at most 16 outputs has 16 bits.
 -- Assumes nothing.
 use mathlib.Core.Path.{_≡_, refl, sym, _∙_, ap, ap₂}
 use mathlib.Core.Bool.{false}
@@ -179,6 +179,6 @@ module _ (j : Job) (s : List ℕ) (e : sheetRefusal j s ≡ 0) (narrow : refuse7
   lower-fit is =
       rw (cond-no (eqb b (t j)) 0 (rails (getD ws b 0)) (ne-eqb b (t j) (λ z. absurd (omega arith)))) (rw (sym is) (rails-enough (getD ws b 0)))
 
-  pub row-byte : getD ws b 0 ≡ widthIn (layers j (reduced j (table j s))) b → cellOutputs j ws a b ≤ 8
-      → (i : ℕ) → row j (reduced j (table j s)) (layers j (reduced j (table j s))) ws a b i < 256
-  row-byte is few i = let p : 2 ^ cellOutputs j ws a b ≤ 256 = pow-mono few in omega (arith, row-below (lower-fit is) i)
+  pub row-small : getD ws b 0 ≡ widthIn (layers j (reduced j (table j s))) b → cellOutputs j ws a b ≤ 16
+      → (i : ℕ) → row j (reduced j (table j s)) (layers j (reduced j (table j s))) ws a b i < 65536
+  row-small is few i = let p : 2 ^ cellOutputs j ws a b ≤ 65536 = pow-mono few in omega (arith, row-below (lower-fit is) i)

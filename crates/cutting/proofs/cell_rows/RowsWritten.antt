@@ -1,4 +1,4 @@
--- The rows of a cell of an accepted job, as they are written by walks over the stored node words: they are the cell's rows, bytes, and fit
+-- The rows of a cell of an accepted job, as they are written by walks over the stored node words: they are the cell's rows, of 16 bits, and fit
 -- their places.
 -- Assumes nothing.
 use mathlib.Core.Path.{_≡_, refl, sym, _∙_, ap, ap₂}
@@ -35,7 +35,7 @@ use Rattle.stored_spec.proofs.Promises.{rails-enough}
 use Rattle.cutting_spec.specs.Cuts.{cellInputs, cellOutputs}
 use Rattle.cutting_spec.specs.Rows.{row, cellRows}
 use Rattle.cutting.specs.RowWalks.{firstAt, rowFrom, nodeRow, walkedRow}
-use Rattle.cutting.proofs.cell_rows.RowWalks.{first-above, row-walked, row-byte}
+use Rattle.cutting.proofs.cell_rows.RowWalks.{first-above, row-walked, row-small}
 
 -- words that are read the same make the same walks
 module _ (ws vs : List ℕ) (same : (i : ℕ) → getD ws i 0 ≡ getD vs i 0) (order : List ℕ) where
@@ -152,10 +152,10 @@ module _ (j : Job) (s : List ℕ) (e : sheetRefusal j s ≡ 0) (narrow : refuse7
           row-walked j s e narrow ws a b above within i
           ∙ sym (walked-same words (wordsOf j f) same (j .order) a b (firstAt j ls a) (widthIn ls a) (firstAt j ls b) (railsAt j ws b) (ins j a - ins j b) i)
 
-      pub stored-byte : getD ws b 0 ≡ widthIn (layers j (reduced j (table j s))) b → cellOutputs j ws a b ≤ 8
+      pub stored-small : getD ws b 0 ≡ widthIn (layers j (reduced j (table j s))) b → cellOutputs j ws a b ≤ 16
           → (i : ℕ) → walkedRow words (j .order) a b (firstAt j (layers j (reduced j (table j s))) a) (widthIn (layers j (reduced j (table j s))) a)
-          (firstAt j (layers j (reduced j (table j s))) b) (railsAt j ws b) (ins j a - ins j b) i < 256
-      stored-byte is few i = omega (arith, row-stored i, row-byte j s e narrow ws a b above within is few i)
+          (firstAt j (layers j (reduced j (table j s))) b) (railsAt j ws b) (ins j a - ins j b) i < 65536
+      stored-small is few i = omega (arith, row-stored i, row-small j s e narrow ws a b above within is few i)
 
       -- the rows written are the cell's
       pub rows-written : (at : ℕ) (l : List ℕ)

@@ -65,8 +65,8 @@ module _ {t : ℕ} {ws rs is : List ℕ} {a b top bottom upper width lower rails
   pub columns-among : Writable t words order ws rs is a b → width * 2 ^ count ≤ size
   columns-among w = rw (n .width-is, n .count-is, n .size-is) (w .columns)
 
-  pub walked-byte : Writable t words order ws rs is a b → (x : ℕ) → x < size → walkedRow words order top bottom upper width lower rails count x < 256
-  walked-byte w x h = omega (arith, walked-between x, w .bytes x (omega (arith, n .size-is)))
+  pub walked-small : Writable t words order ws rs is a b → (x : ℕ) → x < size → walkedRow words order top bottom upper width lower rails count x < 65536
+  walked-small w x h = omega (arith, walked-between x, w .small x (omega (arith, n .size-is)))
 
   pub walked-stored : (at : ℕ) (l : List ℕ)
       → putsAt at size (walkedRow words order top bottom upper width lower rails count) l

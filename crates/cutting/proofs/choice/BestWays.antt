@@ -195,12 +195,12 @@ module _ (C D : ℕ → ℕ → Cell) (k l t : ℕ) (same : (h g : ℕ) → h �
 
 -- cells not larger than the largest: few cuts, few bits
 module _ (C : ℕ → ℕ → Cell) (k l : ℕ) (ins : k ≤ largestInputs) (outs : l ≤ largestOutputs) where
-  few-bits : (c : Cell) → fits k l c ≡ true → bits c ≤ 32768
+  few-bits : (c : Cell) → fits k l c ≡ true → bits c ≤ 65536
   few-bits c e = omega (arith, usable-bits c (fits-largest k l c ins outs e), bits-small c)
 
   pub record Small (h : ℕ) (w : Way) : Type 0 where
     pub cuts : w .cuts ≤ h + 1
-    pub bits : w .bits ≤ h * 32768
+    pub bits : w .bits ≤ h * 65536
     pub next : w .next ≤ h
 
   small-next : (h : ℕ) → ((g : ℕ) → g < suc h → Small g (wayFrom C k l g)) → Small (suc h) (wayFrom C k l (suc h))

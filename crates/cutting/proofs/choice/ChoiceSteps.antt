@@ -80,6 +80,6 @@ module _ (k l : ℕ) (rs is : List ℕ) where
   unfolding listWay
   way-at-bottom h e = rw e (sym (way-bottom (listCell rs is) k l))
 
-  pub ways-small : k ≤ largestInputs → l ≤ largestOutputs → (g : ℕ) → g ≤ 20 → (cutsFrom k l rs is g ≤ 21) × (bitsFrom k l rs is g ≤ 655360)
+  pub ways-small : k ≤ largestInputs → l ≤ largestOutputs → (g : ℕ) → g ≤ 20 → (cutsFrom k l rs is g ≤ 21) × (bitsFrom k l rs is g ≤ 1310720)
   unfolding listWay
   ways-small p q g r = let s = way-small (listCell rs is) k l p q g in let a = s .cuts in let b = s .bits in (omega arith, omega arith)

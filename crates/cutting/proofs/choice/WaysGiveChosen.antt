@@ -201,7 +201,8 @@ module _ (j : Job) (ws : List ℕ) where
       (λ b. inr (open-way h n (omega arith) (ways-lead n) b)))
 
 -- the chosen list of a job
-module _ (j : Job) (ws : List ℕ) (once : notEachOnce (j .n) (j .m) (j .order) ≡ false) (few : j .n ≤ 12) (out : j .m ≤ 8) (small : j .L ≤ 8)
+module _ (j : Job) (ws : List ℕ) (once : notEachOnce (j .n) (j .m) (j .order) ≡ false) (few : j .n ≤ 12) (out : j .m ≤ 8)
+    (slim : (h : ℕ) → h ≤ t j → getD ws h 0 ≤ 512)
     (narrow : (h : ℕ) → h ≤ t j → getD ws h 0 ≤ 2 ^ (j .n - ins j h)) where
   abbrev top : Way
   top = jobWay j ws (t j)
@@ -213,7 +214,7 @@ module _ (j : Job) (ws : List ℕ) (once : notEachOnce (j .n) (j .m) (j .order) 
   some-list l m = cuts-none j ws (of-falls (t j) l m)
 
   admitted : (l : List ℕ) → CutList (t j) l → admissible j ws l ≡ allIn j ws l
-  admitted = admissible-fits j ws once few out small narrow
+  admitted = admissible-fits j ws once few out slim narrow
 
   chosen-is : ((top ≡ noWay) × (chosen j ws ≡ [])) ⊎ ((chosen j ws ≡ led) × Following j ws (t j) led top)
   unfolding chosen

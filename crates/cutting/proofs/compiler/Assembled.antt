@@ -3,7 +3,7 @@
 use mathlib.Core.Path.{_≡_, refl, sym, _∙_, ap, ap₂}
 use mathlib.Core.Bool.{true, false}
 use mathlib.Core.List.{List}
-use Prim.Native.Nat.{ℕ, _+_, _-_, _*_, _^_, _<_, _≤_}
+use Prim.Native.Nat.{ℕ, _+_, _-_, _*_, _/_, _^_, _<_, _≤_}
 use native.Mathlib.Omega.{arith}
 use borrow.Author.Tests.{eq-eqb, ne-eqb}
 use lib.Dec.{eqb}
@@ -29,7 +29,7 @@ use Rattle.stored_spec.specs.Rails.{railsAt}
 use Rattle.cutting_spec.specs.Choice.{admissible, refuse8}
 use Rattle.cutting_spec.specs.Compile as compiler
 use Rattle.cutting_spec.specs.Compile.{widthsOf, made, totals, refused}
-use Rattle.cutting.specs.Plan.{Plan, planned, widthUp, firstIn, recordIn, rowsTo, Writable, rowsStored}
+use Rattle.cutting.specs.Plan.{Plan, planned, widthUp, firstIn, recordIn, rowsTo, Writable, rowsStored, rowByte}
 use Rattle.cutting.specs.RowWalks.{firstAt}
 use Rattle.cutting.specs.Outcome.{Compilation, answered, outcomeOf, outcome, planRefusal}
 use Rattle.cutting_spec.proofs.StoredWell.{all-more, job-limits}
@@ -41,6 +41,9 @@ use Rattle.cutting_spec.proofs.StoredCuts.{length-stored}
 use Rattle.cutting.proofs.plan.PlanOfCascade.{plan, widths-answered, up-width, up-small, first-is, plan-rails, plan-inputs, plan-none, plan-cells, plan-bits, plan-few, plan-length, plan-cuts}
 use Rattle.cutting.proofs.plan.PlannedRows.{rows-counted, cell-writable, rows-stored}
 use Rattle.cutting.proofs.Outcomes.{outcome-early, outcome-8, outcome-9, outcome-10, outcome-11, outcome-accepted}
+use Rattle.stored_spec.specs.RowBytes.{twoBytes, rowBytes}
+use Rattle.stored_spec.proofs.Promises.{length-rowBytes, room-two}
+use Rattle.cutting.proofs.row_bytes.BytesPut.{bytes-put}
 use Rattle.cutting.proofs.Enough.{rows-few}
 use Rattle.cutting.proofs.compiler.PlanRefusals.{is-8, is-9, is-10, is-11, is-0, has-cells, holds-nodes, holds-records, holds-rows}
 
@@ -56,17 +59,18 @@ pub record Kept (j : Job) (s : List ℕ) (r : Reduction) (ws words : List ℕ) (
   pub whole : length (j .order) ≡ t j
   pub words-few : r .nodes * 3 ≤ 30720
   pub cells-few : p .cells ≤ 20
-  pub rows-few : p .rows < 65536
+  pub rows-few : p .rows ≤ 12288
   pub nodes-fit : r .nodes * 3 ≤ length nodes
   pub records-fit : t j * 4 ≤ length records
-  pub rows-fit : rowsTo (p .rails) (p .inputs) (p .cuts) (p .cells) ≤ length rows
+  pub rows-fit : rowsTo (p .rails) (p .inputs) (p .cuts) (p .cells) ≤ 12288
+  pub bytes-fit : p .rows * 2 ≤ length rows
   pub columns : (g : ℕ) → g ≤ t j → widthUp (t j) ws g ≤ 512
   pub writable : (i : ℕ) → i < p .cells
       → Writable (t j) words (j .order) ws (p .rails) (p .inputs) (getD (p .cuts) i 0) (getD (p .cuts) (i + 1) 0)
   pub stored : (nodes′ records′ rows″ : List ℕ) (rows′ : ℕ) → rows′ ≡ p .rows
       → nodes′ ≡ puts (r .nodes * 3) (λ i. getD words i 0) nodes
       → records′ ≡ sets records 0 (joined (t j) (recordIn (t j) (j .order) (p .rails) (p .cuts) (p .cells + 1)))
-      → rows″ ≡ rowsStored (t j) words (j .order) ws (p .rails) (p .inputs) (p .cuts) (p .cells) rows
+      → rows″ ≡ puts (p .rows * 2) (rowByte (rowsStored (t j) words (j .order) ws (p .rails) (p .inputs) (p .cuts) (p .cells) (replicate 12288 0))) rows
       → outcomeOf (record { refusal = 0; nodes = r .nodes; cells = p .cells; rows = rows′; bits = p .bits; widths = ws }) nodes′ records′ rows″
       ≡ outcome nodes records rows j s
 
@@ -89,7 +93,7 @@ module _ (j : Job) (s : List ℕ) (r : Reduction) (is : r ≡ reduction j s) whe
     slim : refuse7 j (table j s) ≡ false
     slim = narrow j s reads
 
-    pub limits : (t j ≤ 20) × (j .K ≤ 12) × (j .L ≤ 8) × (length (j .order) ≡ t j)
+    pub limits : (t j ≤ 20) × (j .K ≤ 12) × (j .L ≤ 16) × (length (j .order) ≡ t j)
     limits = let (some, k≤, l≤) = job-limits j s e in (few-variables j s reads, k≤, l≤, order-length (j .n) (j .m) (j .order) (job-accepted j s e .order-whole))
 
     abbrev cascade : compiler.Made
@@ -154,11 +158,11 @@ module _ (j : Job) (s : List ℕ) (r : Reduction) (is : r ≡ reduction j s) whe
         unfolding made
         good = chosen-admissible j (widthsOf (layers j (reduced j (table j s)))) kept
 
-        fit : allFit 12 8 (cellsOf j (widthsOf (layers j (reduced j (table j s)))) l) ≡ true
+        fit : allFit 12 16 (cellsOf j (widthsOf (layers j (reduced j (table j s)))) l) ≡ true
         unfolding admissible
         fit =
             let (some′, k≤, l≤) = job-limits j s e in
-            all-more (j .K) (j .L) 12 8 k≤ l≤ (cellsOf j (widthsOf (layers j (reduced j (table j s)))) l)
+            all-more (j .K) (j .L) 12 16 k≤ l≤ (cellsOf j (widthsOf (layers j (reduced j (table j s)))) l)
             (and-split (allFit (j .K) (j .L) (cellsOf j (widthsOf (layers j (reduced j (table j s)))) l)) _ good .0)
 
         last : length l - 1 ≡ cells
@@ -172,16 +176,21 @@ module _ (j : Job) (s : List ℕ) (r : Reduction) (is : r ≡ reduction j s) whe
             ∙ ap₂ (λ (q : Plan) (n : ℕ). rowsTo (q .rails) (q .inputs) (q .cuts) n) (sym p-is) (sym (ap (λ (q : Plan). q .cells) p-is) ∙ sym cells-are ∙ sym last)
             ∙ rows-counted j s e slim ws (p .rails) (p .inputs) (p .cuts) l words falls fit widths-are firsts-are rails-are inputs-are cuts-are same
 
-        rows-small : p .rows ≤ 32768
-        rows-small = omega (arith, rows-are, rows-few j s kept)
+        bytes-are : p .rows * 2 ≡ length (made j (table j s) .rowBytes)
+        unfolding made
+        bytes-are =
+            omega (arith, length-rowBytes twoBytes (made j (table j s) .rows), room-two (length (made j (table j s) .rows)), rows-are)
 
-        rows-fit : (rows : List ℕ) → p .rows ≤ length rows → rowsTo (p .rails) (p .inputs) (p .cuts) cells ≤ length rows
+        rows-small : p .rows ≤ 12288
+        rows-small = omega (arith, rows-are, rows-few j s e slim kept)
+
+        rows-fit : rowsTo (p .rails) (p .inputs) (p .cuts) cells ≤ 12288
         unfolding planned
-        rows-fit rows h =
+        rows-fit =
             let here : p .rows ≡ rowsTo (p .rails) (p .inputs) (p .cuts) cells =
             ap (λ (q : Plan). q .rows) p-is
             ∙ ap₂ (λ (q : Plan) (n : ℕ). rowsTo (q .rails) (q .inputs) (q .cuts) n) (sym p-is) (sym (ap (λ (q : Plan). q .cells) p-is) ∙ sym cells-are) in
-            omega (arith, here)
+            omega (arith, here, rows-small)
 
         columns-few : (g : ℕ) → g ≤ t j → widthUp (t j) ws g ≤ 512
         columns-few g h = omega (arith, ap (λ (x : List ℕ). widthUp (t j) x g) ws-is, up-small j s e slim g h)
@@ -212,11 +221,11 @@ module _ (j : Job) (s : List ℕ) (r : Reduction) (is : r ≡ reduction j s) whe
                 ∙ outcome-10 nodes records rows j s e slim kept fits (omega arith)
 
             module _ (space : t j * 4 ≤ length records) where
-              refused-11 : length rows < p .rows → (a : Compilation) → a ≡ answered (refused 11)
+              refused-11 : length rows / 2 < p .rows → (a : Compilation) → a ≡ answered (refused 11)
                   → outcomeOf a nodes records rows ≡ outcome nodes records rows j s
               refused-11 h a q =
                   ap (λ (x : Compilation). outcomeOf x nodes records rows) q
-                  ∙ outcome-11 nodes records rows j s e slim kept fits (omega arith) (omega (arith, rows-are))
+                  ∙ outcome-11 nodes records rows j s e slim kept fits (omega arith) (omega (arith, bytes-are))
 
               words-written : puts (r .nodes * 3) (λ i. getD words i 0) nodes ≡ written nodes 0 (nodeWords (made j (table j s) .nodes))
               unfolding made
@@ -235,13 +244,16 @@ module _ (j : Job) (s : List ℕ) (r : Reduction) (is : r ≡ reduction j s) whe
                   ∙ ap (sets records 0) (records-written j vs l (p .rails) (p .cuts) (limits .3) (λ h q. rails-are h (omega arith)) cuts-are)
                   ∙ sym (written-sets records 0 (made j (table j s) .records) (omega (arith, length-stored j vs l)))
 
-              rows-put : length (made j (table j s) .rows) ≤ length rows
-                  → rowsStored (t j) words (j .order) ws (p .rails) (p .inputs) (p .cuts) cells rows ≡ written rows 0 (made j (table j s) .rows)
+              rows-put : length (made j (table j s) .rowBytes) ≤ length rows
+                  → puts (p .rows * 2) (rowByte (rowsStored (t j) words (j .order) ws (p .rails) (p .inputs) (p .cuts) cells (replicate 12288 0))) rows
+                  ≡ written rows 0 (made j (table j s) .rowBytes)
               unfolding made
               rows-put h =
-                  ap (λ (n : ℕ). rowsStored (t j) words (j .order) ws (p .rails) (p .inputs) (p .cuts) n rows) (sym last)
-                  ∙ rows-stored j s e slim ws (p .rails) (p .inputs) (p .cuts) l words falls fit widths-are firsts-are rails-are inputs-are cuts-are same rows
-                  ∙ sym (written-sets rows 0 (made j (table j s) .rows) (omega (arith, h)))
+                  let vs = made j (table j s) .rows in
+                  let stored = ap (λ (n : ℕ). rowsStored (t j) words (j .order) ws (p .rails) (p .inputs) (p .cuts) n (replicate 12288 0)) (sym last)
+                  ∙ rows-stored j s e slim ws (p .rails) (p .inputs) (p .cuts) l words falls fit widths-are firsts-are rails-are inputs-are cuts-are same (replicate 12288 0) in
+                  ap₂ (λ (n : ℕ) (x : List ℕ). puts (n * 2) (rowByte x) rows) rows-are stored
+                  ∙ bytes-put vs rows (rows-few j s e slim kept) h
 
               answer-is : (rows′ : ℕ) → rows′ ≡ p .rows
                   → record { refusal = 0; nodes = r .nodes; cells = p .cells; rows = rows′; bits = p .bits; widths = ws }
@@ -256,14 +268,14 @@ module _ (j : Job) (s : List ℕ) (r : Reduction) (is : r ≡ reduction j s) whe
                     ws-is ∙ widths-answered j s e slim,
                   )
 
-              accepted-all : p .rows ≤ length rows → (nodes′ records′ rows″ : List ℕ) (count rows′ : ℕ) → count ≡ r .nodes * 3 → rows′ ≡ p .rows
+              accepted-all : p .rows ≤ length rows / 2 → (nodes′ records′ rows″ : List ℕ) (count rows′ : ℕ) → count ≡ r .nodes * 3 → rows′ ≡ p .rows
                   → nodes′ ≡ puts count (λ i. getD words i 0) nodes
                   → records′ ≡ sets records 0 (joined (t j) (recordIn (t j) (j .order) (p .rails) (p .cuts) (cells + 1)))
-                  → rows″ ≡ rowsStored (t j) words (j .order) ws (p .rails) (p .inputs) (p .cuts) cells rows
+                  → rows″ ≡ puts (p .rows * 2) (rowByte (rowsStored (t j) words (j .order) ws (p .rails) (p .inputs) (p .cuts) cells (replicate 12288 0))) rows
                   → outcomeOf (record { refusal = 0; nodes = r .nodes; cells = p .cells; rows = rows′; bits = p .bits; widths = ws }) nodes′ records′ rows″
                   ≡ outcome nodes records rows j s
               accepted-all h nodes′ records′ rows″ count rows′ n q a b c =
-                  let enough : length (made j (table j s) .rows) ≤ length rows = omega (arith, rows-are) in
+                  let enough : length (made j (table j s) .rowBytes) ≤ length rows = omega (arith, bytes-are) in
                   rw (a ∙ ap (λ (k : ℕ). puts k (λ i. getD words i 0) nodes) n ∙ words-written, b ∙ records-put, c ∙ rows-put enough, answer-is rows′ q)
                   (outcome-accepted nodes records rows j s e slim kept fits (omega arith) enough)
 
@@ -286,7 +298,7 @@ module _ (j : Job) (s : List ℕ) (r : Reduction) (is : r ≡ reduction j s) whe
             by-less (length records) (t j * 4)
             (λ x. refused-10 some nodes records rows room x a (gives 10 (is-10 _ _ _ _ _ _ _ has room x)))
             (λ space.
-            by-less (length rows) (p .rows)
+            by-less (length rows / 2) (p .rows)
             (λ x. refused-11 some nodes records rows room space x a (gives 11 (is-11 _ _ _ _ _ _ _ has room space x)))
             (λ x. absurd (h (late-is ∙ is-0 _ _ _ _ _ _ _ has room space x))))))
 
@@ -305,10 +317,11 @@ module _ (j : Job) (s : List ℕ) (r : Reduction) (is : r ≡ reduction j s) whe
           whole = limits .3;
           words-few = words-few;
           cells-few = cells-few ws words ws-is words-is p p-is (p .cells) refl;
-          rows-few = omega (arith, rows-small ws words ws-is words-is p p-is (p .cells) refl some);
+          rows-few = rows-small ws words ws-is words-is p p-is (p .cells) refl some;
           nodes-fit = room;
           records-fit = space;
-          rows-fit = rows-fit ws words ws-is words-is p p-is (p .cells) refl some rows enough;
+          rows-fit = rows-fit ws words ws-is words-is p p-is (p .cells) refl some;
+          bytes-fit = omega (arith, enough);
           columns = columns-few ws words ws-is words-is p p-is (p .cells) refl some;
           writable = writable ws words ws-is words-is p p-is (p .cells) refl some;
           stored =
@@ -326,16 +339,17 @@ module _ {j : Job} {s : List ℕ} {r : Reduction} {ws words : List ℕ} {p : Pla
 
     pub cells-fit : (t j ≤ 20) × (cells ≤ 20) × ((g : ℕ) → g ≤ t j → widthUp (t j) ws g ≤ 512)
         × ((i : ℕ) → i < cells → Writable (t j) words (j .order) ws (p .rails) (p .inputs) (getD (p .cuts) i 0) (getD (p .cuts) (i + 1) 0))
-        × (rowsTo (p .rails) (p .inputs) (p .cuts) cells ≤ length rows)
-    cells-fit = rw e (h .variables, h .cells-few, h .columns, h .writable, h .rows-fit)
+        × (rowsTo (p .rails) (p .inputs) (p .cuts) cells ≤ 12288) × (p .rows ≤ 12288) × (p .rows * 2 ≤ length rows)
+    cells-fit = rw e (h .variables, h .cells-few, h .columns, h .writable, h .rows-fit, h .rows-few, h .bytes-fit)
 
     pub accepted-late : (nodes′ records′ rows″ : List ℕ) (made rows′ : ℕ) → made ≡ r .nodes → rows′ ≡ p .rows
         → nodes′ ≡ puts (made * 3) (λ i. getD words i 0) nodes
         → records′ ≡ sets records 0 (joined (t j) (recordIn (t j) (j .order) (p .rails) (p .cuts) (cells + 1)))
-        → rows″ ≡ rowsStored (t j) words (j .order) ws (p .rails) (p .inputs) (p .cuts) cells rows
+        → rows″ ≡ puts (p .rows * 2) (rowByte (rowsStored (t j) words (j .order) ws (p .rails) (p .inputs) (p .cuts) cells (replicate 12288 0))) rows
         → outcomeOf (record { refusal = 0; nodes = r .nodes; cells = p .cells; rows = rows′; bits = p .bits; widths = ws }) nodes′ records′ rows″
         ≡ outcome nodes records rows j s
     accepted-late nodes′ records′ rows″ made rows′ d q a b c =
         h .stored nodes′ records′ rows″ rows′ q (a ∙ ap (λ (n : ℕ). puts (n * 3) (λ i. getD words i 0) nodes) d)
         (b ∙ ap (λ (n : ℕ). sets records 0 (joined (t j) (recordIn (t j) (j .order) (p .rails) (p .cuts) (n + 1)))) e)
-        (c ∙ ap (λ (n : ℕ). rowsStored (t j) words (j .order) ws (p .rails) (p .inputs) (p .cuts) n rows) e)
+        (c
+        ∙ ap (λ (n : ℕ). puts (p .rows * 2) (rowByte (rowsStored (t j) words (j .order) ws (p .rails) (p .inputs) (p .cuts) n (replicate 12288 0))) rows) e)

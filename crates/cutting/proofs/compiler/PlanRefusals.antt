@@ -2,7 +2,7 @@
 -- Assumes nothing.
 use mathlib.Core.Path.{_≡_, _∙_}
 use mathlib.Core.Bool.{cond}
-use Prim.Native.Nat.{ℕ, _*_, _<_, _≤_}
+use Prim.Native.Nat.{ℕ, _*_, _/_, _<_, _≤_}
 use native.Mathlib.Omega.{arith}
 use borrow.Author.Tests.{eq-eqb, ne-eqb, lt-ltb, le-ltb}
 use lib.Dec.{eqb, ltb}
@@ -14,7 +14,7 @@ module _ (cells made t total nodes records rows : ℕ) where
   number = planRefusal cells made t total nodes records rows
 
   abbrev after10 : ℕ
-  after10 = cond (ltb rows total) 11 0
+  after10 = cond (ltb (rows / 2) total) 11 0
 
   abbrev after9 : ℕ
   after9 = cond (ltb records (t * 4)) 10 after10
@@ -45,11 +45,11 @@ module _ (cells made t total nodes records rows : ℕ) where
         past-10 : number ≡ after10
         past-10 = past-9 ∙ cond-no (ltb records (t * 4)) 10 after10 (le-ltb records (t * 4) space)
 
-        pub is-11 : rows < total → planRefusal cells made t total nodes records rows ≡ 11
-        is-11 h = past-10 ∙ cond-yes (ltb rows total) 11 0 (lt-ltb rows total h)
+        pub is-11 : rows / 2 < total → planRefusal cells made t total nodes records rows ≡ 11
+        is-11 h = past-10 ∙ cond-yes (ltb (rows / 2) total) 11 0 (lt-ltb (rows / 2) total h)
 
-        pub is-0 : total ≤ rows → planRefusal cells made t total nodes records rows ≡ 0
-        is-0 h = past-10 ∙ cond-no (ltb rows total) 11 0 (le-ltb rows total h)
+        pub is-0 : total ≤ rows / 2 → planRefusal cells made t total nodes records rows ≡ 0
+        is-0 h = past-10 ∙ cond-no (ltb (rows / 2) total) 11 0 (le-ltb (rows / 2) total h)
 
   -- what holds where there is none
   module _ (none : planRefusal cells made t total nodes records rows ≡ 0) where
@@ -62,5 +62,5 @@ module _ (cells made t total nodes records rows : ℕ) where
     pub holds-records : t * 4 ≤ records
     holds-records = by-less records (t * 4) (λ h. absurd (let e = is-10 has-cells holds-nodes h in omega arith)) (λ h. h)
 
-    pub holds-rows : total ≤ rows
-    holds-rows = by-less rows total (λ h. absurd (let e = is-11 has-cells holds-nodes holds-records h in omega arith)) (λ h. h)
+    pub holds-rows : total ≤ rows / 2
+    holds-rows = by-less (rows / 2) total (λ h. absurd (let e = is-11 has-cells holds-nodes holds-records h in omega arith)) (λ h. h)

@@ -24,13 +24,14 @@ use Rattle.reduction_spec.specs.Columns.{firstsAt, width, layers, widthIn}
 use Rattle.reduction_spec.specs.Merge.{reduced, refuse7}
 use Rattle.reduction_spec.specs.Diagram.{nodesAbove}
 use Rattle.reduction_spec.specs.Reduction.{reductionRefusal, finalTable, finalWidths, widthsAfter}
-use Rattle.reduction_spec.proofs.Promises.{width-few, width-bottom, width-top, width-fits, width-layer, not-refused}
+use Rattle.reduction_spec.proofs.Promises.{width-few, width-top, width-most, width-layer, not-refused}
 use Rattle.stored_spec.specs.Rails.{rails, railsAt}
 use Rattle.cutting_spec.specs.Choice.{refuse8}
 use Rattle.cutting.specs.Ways.{Way, falling, jobWay, listCell, listWay, nextFrom}
 use Rattle.cutting_spec.specs.Compile.{made, widthsOf}
 use Rattle.cutting.specs.RowWalks.{firstAt}
 use Rattle.cutting.specs.Plan.{Plan, inputsIn, railsIn, widthUp, firstIn, cutIn, bytes21, planned}
+use Rattle.cutting_spec.proofs.RowLimit.{sheet-slim, sheet-narrow}
 use Rattle.cutting_spec.proofs.RailCounts.{width-at}
 use Rattle.cutting_spec.proofs.StoredCuts.{cuts-some}
 use Rattle.cutting_spec.proofs.StoredWell.{job-limits}
@@ -117,16 +118,8 @@ module _ (j : Job) (s : List ℕ) (e : sheetRefusal j s ≡ 0) (narrow : refuse7
       held-is ∙ sym (written-sets (replicate 20 0) 0 (tab (t j) (width j f)) (omega (arith, length-replicate {A = ℕ} 20 0)))
       ∙ ap (λ (x : List ℕ). written (replicate 20 0) 0 x) (sym (widths-below j f))
 
-  width-small : (h : ℕ) → h ≤ t j → width j f h ≤ 512
-  width-small h l =
-      let r = job-accepted j s e in
-      by-equal h 0 (λ z. omega (arith, ap (width j f) z, width-bottom j f))
-      (λ z.
-      by-equal h (t j) (λ top. omega (arith, ap (width j f) top, width-top j (r .order-whole) (r .inputs) (r .outputs) f))
-      (λ below. width-fits j (r .order-whole) (r .inputs) (r .outputs) (table j s) narrow h (omega arith) (omega arith)))
-
   pub widths-small : (h : ℕ) → h < t j → getD heldWidths h 0 ≤ 512
-  widths-small h l = omega (arith, held-width h l, width-small h (omega arith))
+  widths-small h l = omega (arith, held-width h l, width-most j s e narrow h (omega arith))
 
   up-is : (h : ℕ) → h ≤ t j → widthUp (t j) heldWidths h ≡ width j f h
   unfolding widthUp
@@ -142,7 +135,7 @@ module _ (j : Job) (s : List ℕ) (e : sheetRefusal j s ≡ 0) (narrow : refuse7
   up-width h l = up-is h l ∙ sym (width-layer j f h l)
 
   pub up-small : (h : ℕ) → h ≤ t j → widthUp (t j) heldWidths h ≤ 512
-  up-small h l = omega (arith, up-is h l, width-small h l)
+  up-small h l = omega (arith, up-is h l, width-most j s e narrow h l)
 
   pub first-is : (h : ℕ) → h ≤ t j → firstIn (t j) heldWidths h ≡ firstAt j (layers j (reduced j (table j s))) h
   unfolding firstIn firstAt nodesAbove
@@ -169,8 +162,12 @@ module _ (j : Job) (s : List ℕ) (e : sheetRefusal j s ≡ 0) (narrow : refuse7
   way-planned = way-list j ws (plan .rails) (plan .inputs) plan-rails plan-inputs
 
   narrow-enough : (h : ℕ) → h ≤ t j → getD ws h 0 ≤ 2 ^ (j .n - ins j h)
-  unfolding width firstsAt
-  narrow-enough h l = omega (arith, made-width h l, width-few (j .n) (ins j h) (outs j h) f)
+  unfolding made
+  narrow-enough = sheet-narrow j s e
+
+  slim-enough : (h : ℕ) → h ≤ t j → getD ws h 0 ≤ 512
+  unfolding made
+  slim-enough = sheet-slim j s e narrow
 
   cells-way : plan .cells ≡ jobWay j ws (t j) .cuts - 1
   unfolding planned
@@ -180,23 +177,21 @@ module _ (j : Job) (s : List ℕ) (e : sheetRefusal j s ≡ 0) (narrow : refuse7
   plan-none =
       let r = job-accepted j s e in
       let (some, k≤, l≤) = job-limits j s e in
-      refuse8-cells j ws (r .order-whole) (r .inputs) (r .outputs) l≤ narrow-enough (omega arith)
+      refuse8-cells j ws (r .order-whole) (r .inputs) (r .outputs) slim-enough narrow-enough (omega arith)
       ∙ ap (λ (k : ℕ). eqb k 0) (sym cells-way)
 
   pub plan-cells : plan .cells ≡ made j (table j s) .cells
   unfolding made
   plan-cells =
       let r = job-accepted j s e in
-      let (some, k≤, l≤) = job-limits j s e in
-      cells-way ∙ sym (chosen-cells j ws (r .order-whole) (r .inputs) (r .outputs) l≤ narrow-enough)
+      cells-way ∙ sym (chosen-cells j ws (r .order-whole) (r .inputs) (r .outputs) slim-enough narrow-enough)
 
   pub plan-bits : plan .bits ≡ made j (table j s) .bits
   unfolding planned made
   plan-bits =
       let r = job-accepted j s e in
-      let (some, k≤, l≤) = job-limits j s e in
       ap (λ (w : Way). w .bits) (way-planned (t j) (omega arith))
-      ∙ sym (chosen-bits j ws (r .order-whole) (r .inputs) (r .outputs) l≤ narrow-enough)
+      ∙ sym (chosen-bits j ws (r .order-whole) (r .inputs) (r .outputs) slim-enough narrow-enough)
 
   pub plan-few : plan .cells ≤ 20
   unfolding planned listWay
@@ -229,7 +224,7 @@ module _ (j : Job) (s : List ℕ) (e : sheetRefusal j s ≡ 0) (narrow : refuse7
         let r = job-accepted j s e in
         let (some, k≤, l≤) = job-limits j s e in
         let none = eqb-false (plan .cells) 0 (sym plan-none ∙ kept) in
-        chosen-next j ws (r .order-whole) (r .inputs) (r .outputs) l≤ narrow-enough nx next-planned (omega (arith, cells-way))
+        chosen-next j ws (r .order-whole) (r .inputs) (r .outputs) slim-enough narrow-enough nx next-planned (omega (arith, cells-way))
 
     pub plan-cuts : (i : ℕ) → i < length (made j (table j s) .cuts) → getD (plan .cuts) i 0 ≡ getD (made j (table j s) .cuts) i 0
     unfolding planned bytes21

@@ -30,7 +30,7 @@ use Rattle.cutting.specs.Plan.{widthUp, firstIn, rowsOf, rowsTo, rowBetw
 use Rattle.cutting_spec.proofs.StoredCuts.{cuts-fall, cuts-most}
 use Rattle.cutting_spec.proofs.RailCounts.{width-at}
 use Rattle.stored_spec.proofs.Promises.{few-inputs, few-outputs, usable-rows}
-use Rattle.cutting.proofs.cell_rows.RowsWritten.{upper-fit, columns-fit, nodes-within, stored-byte, rows-written}
+use Rattle.cutting.proofs.cell_rows.RowsWritten.{upper-fit, columns-fit, nodes-within, stored-small, rows-written}
 use Rattle.cutting_spec.proofs.StoredWell.{fit-at}
 use Rattle.cutting.proofs.choice.WaysGiveChosen.{cell-same}
 
@@ -103,7 +103,7 @@ module _ (j : Job) (s : List ℕ) (e : sheetRefusal j s ≡ 0) (narrow : refuse7
           nodes = omega (arith, firsts-are a within, widths-are a within, nodes-within j s e narrow vs a b above within);
           columns = rw (count, widths-are a within, size-is)
               (columns-fit j s e narrow vs a b above within (upper-fit j s e narrow vs a b above within (λ h. width-at ls a)));
-          bytes = λ x h. rw (row-is x) (stored-byte j s e narrow vs a b above within words same (width-at ls b) outputs x);
+          small = λ x h. rw (row-is x) (stored-small j s e narrow vs a b above within words same (width-at ls b) outputs x);
         }
 
     rows-put : (at : ℕ) (mem : List ℕ)

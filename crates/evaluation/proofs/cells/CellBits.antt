@@ -54,7 +54,7 @@ module _ (R : List ℕ) (last row first : ℕ) (outs₀ : List ℕ) (formed : re
     pub some-bit : 128 ≤ v → 1 ≤ e
     some-bit l = some (and-join (eq-eqb k k refl) (ap not (le-ltb v 128 l)))
 
-    pub few-bits : e ≤ 8
+    pub few-bits : e ≤ 16
     few-bits = omega (arith, s .left, all, few-outs R k (rows-told R k (has-cell R last within cut formed)))
 
     pub set-more : {d : ℕ} {outs′ : List ℕ} → d ≡ cond (ltb v 128) e (e - 1)

@@ -3,27 +3,28 @@
 use mathlib.Core.Path.{_≡_, sym, _∙_, ap, ap₂, subst}
 use mathlib.Core.Bool.{true}
 use mathlib.Core.List.{List}
-use Prim.Native.Nat.{ℕ, zero, suc, _+_, _-_, _*_, _/_, _^_, _≤_, _<_}
+use Prim.Native.Nat.{ℕ, _+_, _-_, _*_, _/_, _^_, _≤_, _<_}
 use native.Mathlib.Omega.{arith}
 use lib.Bits.{and-le-r}
 use lib.ListN.{length}
-use lib.Pow.{pow-add, pow-mono}
+use lib.Pow.{pow-add, pow-mono, pow-pos}
 use Rattle.laws.proofs.Counts.{sum-at}
 use Rattle.laws.proofs.Lists.{row-end}
-use Rattle.laws.proofs.Tests.{every-at}
 use Rattle.stored_spec.specs.Cells.{rows}
-use Rattle.stored_spec.specs.StoredForm.{StoredCell, recordCount, variable, cutByte, railByte, withVariable, reading, cellCount, cellAt, sizeOf, rowsBefore, rowCount, cellFormed, recordsFormed, wellFormed}
-use Rattle.stored_spec.proofs.CellSizes.{few-inputs, few-outputs}
-use Rattle.stored_spec.proofs.FormedCells.{first-upper, rails-follow}
+use Rattle.stored_spec.specs.RowBytes.{twoBytes}
+use Rattle.stored_spec.specs.StoredForm.{StoredCell, recordCount, variable, cutByte, railByte, withVariable, reading, cellCount, cellAt, sizeOf, rowsBefore, rowCount, recordsFormed, wellFormed}
 use Rattle.stored_spec.proofs.ReadWriteCases.{formed-records, row-bytes}
+use Rattle.stored_spec.proofs.RowForms.{room-two}
 use Rattle.stored_spec.proofs.StoredParts.{records-have}
 use Rattle.evaluation_spec.specs.RailSets.{Gathered, noneRead, isIn, gathered, railSet}
+use Rattle.stored_spec.proofs.LowerRails.{inputs-few, few-lower}
 use Rattle.evaluation_spec.proofs.Occurring.{outputs-few, rails-small}
 use Rattle.evaluation_spec.proofs.Words.{gather-lt, gather-and}
-use Rattle.evaluation.specs.Agreeing.{Addresses, Whole, ofSet}
+use Rattle.evaluation.specs.Agreeing.{Within, Addresses, Whole, ofSet}
 use Rattle.evaluation.specs.BegunCell.{Begun, endedBy, startOf, addressesOf, begunBy, begunWith}
 use Rattle.evaluation.proofs.Enumeration.{maskOf, valueOf, countOf}
 use Rattle.evaluation.proofs.ReadCell.{OfCell, cell-gathered}
+use Rattle.evaluation.proofs.SetRoom.{set-within}
 use Rattle.evaluation.proofs.cells.CellRecords.{cell-is, cell-there}
 
 module _ (R bytes : List ℕ) (known w i : ℕ) (formed : wellFormed R bytes ≡ true) (within : i < recordCount R) (cut : cutByte R i ≡ 1) where
@@ -45,19 +46,21 @@ module _ (R bytes : List ℕ) (known w i : ℕ) (formed : wellFormed R bytes ≡
     pub count : c .count ≡ countOf known w (cellAt R (endedBy R i) .ins)
     pub lower : railByte R i ≡ cellAt R (endedBy R i) .lower
     -- its sizes
-    pub few-up : c .upper ≤ 8
     pub few-in : c .upper + c .ins ≤ 12
-    pub few-out : c .outs + railByte R i ≤ 8
-    pub rows-in : c .at + 2 ^ c .upper * 2 ^ c .ins ≤ length bytes
-    pub rows-few : length bytes ≤ 32768
+    pub few-out : c .outs + railByte R i ≤ 16
+    pub few-low : railByte R i ≤ 12
+    pub rows-in : c .at + 2 ^ c .upper * 2 ^ c .ins ≤ length bytes / 2
+    pub rows-few : length bytes / 2 ≤ 32768
 
   -- the rows of each rail word of the set lie within the cascade's, and the numbers are small
   abbrev pub Readable : List ℕ → Addresses → Type 0
   Readable s p =
-      ((r : ℕ) → r < 256 → isIn s r ≡ true → p .at + r * p .block + (p .value + p .free) < length bytes) × Whole (p .mask) (p .free)
+      ((r : ℕ) → r < 4096 → isIn s r ≡ true → p .at + r * p .block + (p .value + p .free) < length bytes / 2) × Whole (p .mask) (p .free)
       × (p .at ≤ 32768)
       × (p .block ≤ 4096)
-      × (p .words ≤ 4)
+      × (p .words ≤ 64)
+      × (p .low < 4096)
+      × Within (p .words) s
 
   there : k < cellCount R
   there = cell-there R i within cut
@@ -65,16 +68,8 @@ module _ (R bytes : List ℕ) (known w i : ℕ) (formed : wellFormed R bytes ≡
   records : recordsFormed R ≡ true
   records = formed-records R bytes formed
 
-  cell-size : (C .upper + length (C .ins) ≤ 12) × (length (C .outs) + C .lower ≤ 8)
-  unfolding sizeOf cellFormed
-  cell-size =
-      let f = every-at (cellFormed R) (cellCount R) (records-have R records .cells) k there in
-      (few-inputs (sizeOf C) f, few-outputs (sizeOf C) f)
-
-  -- upper rails are lower rails of the cell above
-  few-upper : (j : ℕ) → j < cellCount R → cellAt R j .upper ≤ 8
-  few-upper zero l = omega (arith, first-upper R records l)
-  few-upper (suc j) l = omega (arith, rails-follow R records j l, outputs-few known w R bytes records j (omega arith))
+  row-count : length bytes / 2 ≡ rowCount R
+  row-count = omega (arith, row-bytes R bytes formed, room-two (rowCount R))
 
   cell-rows : rowsBefore R k + 2 ^ C .upper * 2 ^ length (C .ins) ≤ rowCount R
   unfolding rowCount rowsBefore rows sizeOf
@@ -100,11 +95,11 @@ module _ (R bytes : List ℕ) (known w i : ℕ) (formed : wellFormed R bytes ≡
         value = ap (λ (x : Begun). x .value) e ∙ sym (ap (λ (x : StoredCell). valueOf known w (x .ins)) d);
         count = ap (λ (x : Begun). x .count) e ∙ sym (ap (λ (x : StoredCell). countOf known w (x .ins)) d);
         lower = l;
-        few-up = omega (arith, u, few-upper k there);
-        few-in = omega (arith, u, n, cell-size .0);
-        few-out = omega (arith, o, l, cell-size .1);
-        rows-in = omega (arith, a, ap₂ (λ (x y : ℕ). 2 ^ x * 2 ^ y) u n, cell-rows, row-bytes R bytes formed);
-        rows-few = omega (arith, row-bytes R bytes formed, records-have R records .rows);
+        few-in = omega (arith, u, n, inputs-few R records k there);
+        few-out = omega (arith, o, l, outputs-few known w R bytes records k there);
+        few-low = omega (arith, l, few-lower R records k there);
+        rows-in = omega (arith, a, ap₂ (λ (x y : ℕ). 2 ^ x * 2 ^ y) u n, cell-rows, row-count);
+        rows-few = omega (arith, row-count, records-have twoBytes R records .rows);
       }
 
   module _ (c : Begun) (h : Ended c) where
@@ -135,7 +130,7 @@ module _ (R bytes : List ℕ) (known w i : ℕ) (formed : wellFormed R bytes ≡
     few-rails r e = rails-small known w R bytes records k there r e
 
     -- the rows of the rail words of the set lie within the cascade's
-    rail-within : (r : ℕ) → isIn (railSet known w R bytes k) r ≡ true → p .at + r * p .block + (p .value + p .free) < length bytes
+    rail-within : (r : ℕ) → isIn (railSet known w R bytes k) r ≡ true → p .at + r * p .block + (p .value + p .free) < length bytes / 2
     unfolding addressesOf
     rail-within r e =
         let l : r < 2 ^ c .upper = omega (arith, few-rails r e, ap (λ (x : ℕ). 2 ^ x) (h .upper)) in
@@ -145,8 +140,9 @@ module _ (R bytes : List ℕ) (known w i : ℕ) (formed : wellFormed R bytes ≡
     unfolding addressesOf
     readable =
         let b : 2 ^ c .ins ≤ 4096 = pow-mono {j = 12} (omega (arith, h .few-in)) in
-        let u : 2 ^ c .upper ≤ 256 = pow-mono {j = 8} (omega (arith, h .few-up)) in
-        (λ r l e. rail-within r e, record { inputs = c .ins; few = omega (arith, h .few-in); all = omega (arith, mask-lt) }, omega (arith, h .rows-in, h .rows-few), b, omega (arith, u))
+        let u : 2 ^ c .upper ≤ 4096 = pow-mono {j = 12} (omega (arith, h .few-in)) in
+        let low : 2 ^ railByte R i ≤ 4096 = pow-mono {j = 12} (h .few-low) in
+        (λ r l e. rail-within r e, record { inputs = c .ins; few = omega (arith, h .few-in); all = omega (arith, mask-lt) }, omega (arith, h .rows-in, h .rows-few), b, omega (arith, u), omega (arith, low, pow-pos (railByte R i)), subst (λ (x : ℕ). Within ((2 ^ x + 63) / 64) (railSet known w R bytes k)) (sym (h .upper)) (set-within known w R bytes records k there))
 
     gathers : ofSet bytes p (railSet known w R bytes k) (p .words) noneRead ≡ gathered known w R bytes k (railSet known w R bytes k)
     gathers = cell-gathered known w R bytes k (railSet known w R bytes k) p of-cell few-rails

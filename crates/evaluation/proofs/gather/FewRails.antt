@@ -13,6 +13,7 @@ use lib.Seq.{set-getD}
 use Rattle.laws.specs.Turns.{inTurn}
 use Rattle.laws.proofs.Masks.{or-assoc}
 use Rattle.laws.proofs.Turns.{turns-next, turns-ext}
+use Rattle.stored_spec.specs.RowBytes.{twoBytes, rowValue}
 use Rattle.evaluation_spec.specs.RailSets.{Gathered, withRail, withRow}
 use Rattle.evaluation.specs.Agreeing.{partOf, railRow, plainRow, Whole}
 use Rattle.evaluation.proofs.gather.Parts.{row-next}
@@ -37,6 +38,14 @@ more-rails s a r l =
     by [] = refl
     by (x ∷ t) = ap (λ (y : ℕ). y ∷ t) (or-assoc x a (2 ^ r))
 
+-- rail words of two words, one after the other
+pub few-join : (some each a b : ℕ) (s : List ℕ) → fewAs some each (bitOr a b) s ≡ fewAs some each b (set s 0 (bitOr (getD s 0 0) a))
+few-join some each a b s = ap (λ (n : List ℕ). record { some = some; each = each; next = n }) (sym (by s))
+  where
+    by : (t : List ℕ) → set (set t 0 (bitOr (getD t 0 0) a)) 0 (bitOr (getD (set t 0 (bitOr (getD t 0 0) a)) 0 0) b) ≡ set t 0 (bitOr (getD t 0 0) (bitOr a b))
+    by [] = refl
+    by (x ∷ t) = ap (λ (y : ℕ). y ∷ t) (or-assoc x a b)
+
 few-more : (some each rails x r : ℕ) (s : List ℕ) → r < 64
     → fewAs (bitOr some x) (bitAnd each x) (bitOr rails (2 ^ r)) s ≡ withRow x r (fewAs some each rails s)
 unfolding withRow
@@ -51,34 +60,34 @@ module _ (some each rails x y low : ℕ) (s : List ℕ) (is : y ≡ x) (l : bitA
       ap (λ (b : ℕ). fewAs (bitOr some x) (bitAnd each x) (bitOr rails b) s) shifted ∙ few-more some each rails x (bitAnd y low) s l
       ∙ ap (λ (b : ℕ). withRow x (bitAnd b low) (fewAs some each rails s)) is
 
-pub few-next : (bytes : List ℕ) (first mask free low j : ℕ) (g : Gathered) (s : List ℕ) (rails : ℕ) {some each p y : ℕ} → p ≡ partOf mask free j
-    → y ≡ getD bytes (first + p) 0 → bitAnd y low < 64 → fewAs some each rails s ≡ inTurn j (railRow bytes first mask free low) g
-    → fewAs (bitOr some (getD bytes (first + p) 0)) (bitAnd each (getD bytes (first + p) 0)) (bitOr rails (1 * 2 ^ bitAnd y low % 18446744073709551616)) s
+pub few-next : (bytes : List ℕ) (first mask free low j : ℕ) (g : Gathered) (s : List ℕ) (rails : ℕ) {some each p x y : ℕ} → p ≡ partOf mask free j
+    → x ≡ rowValue twoBytes bytes (first + p) → y ≡ x → bitAnd y low < 64 → fewAs some each rails s ≡ inTurn j (railRow bytes first mask free low) g
+    → fewAs (bitOr some x) (bitAnd each x) (bitOr rails (1 * 2 ^ bitAnd y low % 18446744073709551616)) s
     ≡ inTurn (j + 1) (railRow bytes first mask free low) g
-few-next bytes first mask free low j g s rails {some} {each} {p} {y} at is l e =
-    row-next bytes first mask free low j g at e (with-shifted some each rails (getD bytes (first + p) 0) y low s is l)
+few-next bytes first mask free low j g s rails {some} {each} {p} {x} {y} at read is l e =
+    row-next bytes first mask free low j g at read e (with-shifted some each rails x y low s is l)
 
 -- rows one after another
-pub run-next : (bytes : List ℕ) (first low j : ℕ) (g : Gathered) (s : List ℕ) (rails : ℕ) {some each y : ℕ} → y ≡ getD bytes (first + j) 0 → bitAnd y low < 64
+pub run-next : (bytes : List ℕ) (first low j : ℕ) (g : Gathered) (s : List ℕ) (rails : ℕ) {some each x y : ℕ} → x ≡ rowValue twoBytes bytes (first + j) → y ≡ x → bitAnd y low < 64
     → fewAs some each rails s ≡ inTurn j (plainRow bytes first low) g
-    → fewAs (bitOr some (getD bytes (first + j) 0)) (bitAnd each (getD bytes (first + j) 0)) (bitOr rails (1 * 2 ^ bitAnd y low % 18446744073709551616)) s
+    → fewAs (bitOr some x) (bitAnd each x) (bitOr rails (1 * 2 ^ bitAnd y low % 18446744073709551616)) s
     ≡ inTurn (j + 1) (plainRow bytes first low) g
 unfolding plainRow
-run-next bytes first low j g s rails {some} {each} {y} is l e =
-    with-shifted some each rails (getD bytes (first + j) 0) y low s is l ∙ ap (plainRow bytes first low j) e ∙ sym (turns-next (plainRow bytes first low) j g)
+run-next bytes first low j g s rails {some} {each} {x} {y} read is l e =
+    with-shifted some each rails x y low s is l ∙ ap (λ (z : ℕ). withRow z (bitAnd z low) (fewAs some each rails s)) read ∙ ap (plainRow bytes first low j) e ∙ sym (turns-next (plainRow bytes first low) j g)
 
 -- with no rails below the rail word is 0
 unfoldable pub oneRail : ℕ → ℕ
 oneRail zero = 0
 oneRail (suc j) = 1
 
-pub plain-next : (bytes : List ℕ) (first j : ℕ) (g : Gathered) (s : List ℕ) {some each : ℕ} → fewAs some each (oneRail j) s ≡ inTurn j (plainRow bytes first 0) g
-    → fewAs (bitOr some (getD bytes (first + j) 0)) (bitAnd each (getD bytes (first + j) 0)) (oneRail (j + 1)) s ≡ inTurn (j + 1) (plainRow bytes first 0) g
+pub plain-next : (bytes : List ℕ) (first j : ℕ) (g : Gathered) (s : List ℕ) {some each x : ℕ} → x ≡ rowValue twoBytes bytes (first + j)
+    → fewAs some each (oneRail j) s ≡ inTurn j (plainRow bytes first 0) g → fewAs (bitOr some x) (bitAnd each x) (oneRail (j + 1)) s ≡ inTurn (j + 1) (plainRow bytes first 0) g
 unfolding oneRail plainRow
-plain-next bytes first j g s {some} {each} e =
-    let x = getD bytes (first + j) 0 in
+plain-next bytes first j g s {some} {each} {x} read e =
     ap (λ (b : ℕ). fewAs (bitOr some x) (bitAnd each x) b s) (ap oneRail (add-one j) ∙ one j) ∙ few-more some each (oneRail j) x 0 s (omega arith)
     ∙ ap (λ (r : ℕ). withRow x r (fewAs some each (oneRail j) s)) (sym (and-zero-r x))
+    ∙ ap (λ (z : ℕ). withRow z (bitAnd z 0) (fewAs some each (oneRail j) s)) read
     ∙ ap (plainRow bytes first 0 j) e ∙ sym (turns-next (plainRow bytes first 0) j g)
   where
     one : (i : ℕ) → 1 ≡ bitOr (oneRail i) 1
@@ -108,4 +117,4 @@ plain-rows bytes first mask free count low g whole m c =
     (λ j l t.
     let e : free + 1 ≡ 2 ^ whole .inputs = omega (arith, m, whole .all) in
     let p : j ≡ partOf mask free j = sym (ap (λ (x : ℕ). partOf x free j) m ∙ part-plain free (whole .inputs) e j (omega (arith, l, c))) in
-    ap (λ (y : ℕ). withRow (getD bytes (first + y) 0) (bitAnd (getD bytes (first + y) 0) low) t) p) g
+    ap (λ (y : ℕ). let x = rowValue twoBytes bytes (first + y) in withRow x (bitAnd x low) t) p) g

@@ -6,9 +6,9 @@ use native.Mathlib.Numerals.{add-one}
 use native.Mathlib.Omega.{arith}
 use mathlib.Core.List.{List}
 use lib.Bits.{bitAnd, and-le-r}
-use lib.ListN.{getD}
 use lib.Pow.{pow-mono}
 use Rattle.laws.specs.Turns.{inTurn}
+use Rattle.stored_spec.specs.RowBytes.{twoBytes, rowValue}
 use Rattle.evaluation_spec.specs.RailSets.{Gathered, withRow}
 use Rattle.evaluation.specs.Agreeing.{partOf, railRow, Whole}
 
@@ -22,12 +22,12 @@ unfolding partOf
 part-next mask free j e = ap (λ (y : ℕ). bitAnd (y + mask + 1) free) e ∙ ap (partOf mask free) (sym (add-one j))
 
 -- one row more
-pub row-next : (bytes : List ℕ) (first mask free low j : ℕ) (s : Gathered) {x : ℕ} {g h : Gathered} → x ≡ partOf mask free j
-    → g ≡ inTurn j (railRow bytes first mask free low) s → h ≡ withRow (getD bytes (first + x) 0) (bitAnd (getD bytes (first + x) 0) low) g
+pub row-next : (bytes : List ℕ) (first mask free low j : ℕ) (s : Gathered) {p x : ℕ} {g h : Gathered} → p ≡ partOf mask free j
+    → x ≡ rowValue twoBytes bytes (first + p) → g ≡ inTurn j (railRow bytes first mask free low) s → h ≡ withRow x (bitAnd x low) g
     → h ≡ inTurn (j + 1) (railRow bytes first mask free low) s
 unfolding railRow
-row-next bytes first mask free low j s {g = g} p q e =
-    e ∙ ap (λ (y : ℕ). withRow (getD bytes (first + y) 0) (bitAnd (getD bytes (first + y) 0) low) g) p
+row-next bytes first mask free low j s {g = g} p is q e =
+    e ∙ ap (λ (y : ℕ). withRow y (bitAnd y low) g) (is ∙ ap (λ (y : ℕ). rowValue twoBytes bytes (first + y)) p)
     ∙ ap (railRow bytes first mask free low j) q ∙ ap (λ (n : ℕ). inTurn n (railRow bytes first mask free low) s) (sym (add-one j))
 
 pub whole-small : {mask free : ℕ} → Whole mask free → mask + free < 4096

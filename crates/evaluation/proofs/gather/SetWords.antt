@@ -94,7 +94,8 @@ module _ (bytes : List ℕ) (p : Addresses) (x base : ℕ) (s : Gathered) where
       (turns-idle (ofBit bytes p x base) b 64 l
       (λ i m k t. cond-no (has x i) (ofRail bytes p (base + i * p .block) t) t (has-past x b i (left-none x b (sym r ∙ z)) m)) s)
 
-pub set-next : (bytes : List ℕ) (p : Addresses) (ws : List ℕ) (s : Gathered) (q : ℕ) {g h : Gathered} → g ≡ inTurn q (ofPlace bytes p ws) s
-    → h ≡ ofWord bytes p (getD ws q 0) (p .at + q * 64 * p .block) g → h ≡ inTurn (q + 1) (ofPlace bytes p ws) s
+pub set-next : (bytes : List ℕ) (p : Addresses) (ws : List ℕ) (s : Gathered) (q : ℕ) {x : ℕ} {g h : Gathered} → x ≡ getD ws q 0
+    → g ≡ inTurn q (ofPlace bytes p ws) s → h ≡ ofWord bytes p x (p .at + q * 64 * p .block) g → h ≡ inTurn (q + 1) (ofPlace bytes p ws) s
 unfolding ofPlace
-set-next bytes p ws s q e f = f ∙ ap (ofPlace bytes p ws q) e ∙ sym (turns-next (ofPlace bytes p ws) q s)
+set-next bytes p ws s q {g = g} is e f =
+    f ∙ ap (λ (y : ℕ). ofWord bytes p y (p .at + q * 64 * p .block) g) is ∙ ap (ofPlace bytes p ws q) e ∙ sym (turns-next (ofPlace bytes p ws) q s)

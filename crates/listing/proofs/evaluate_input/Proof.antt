@@ -1,7 +1,7 @@
 -- `evaluate_input` meets its contract.
 -- Assumes nothing.
 use mathlib.Core.Path.{_≡_, _∙_, ap, ap₂}
-use Prim.Native.Nat.{ℕ, _+_, min}
+use Prim.Native.Nat.{ℕ, _+_, _*_, min}
 use native.Mathlib.Omega.{arith}
 use denote.Ref.{now}
 use lib.ListN.{length, length-take}
@@ -43,6 +43,9 @@ least-requires c κs = search needs
 wide16-requires : tie.Need-wide16-requires
 wide16-requires c κs = search needs
 
+mul-least-2 : tie.Need-mul-least-2
+mul-least-2 c = search needs
+
 least-requires-2 : tie.Need-least-requires-2
 least-requires-2 c κs = search needs
 
@@ -75,11 +78,11 @@ returns c =
     let R = compiled .compile-input .last .1 .0 in
     let Q = compiled .compile-input .last .1 .1 .0 in
     let lr : length R ≡ 80 = omega arith in
-    let lq : length Q ≡ 32768 = omega arith in
+    let lq : length Q ≡ 65536 = omega arith in
     input-accepted (now (a .input)) _ _ (a .known) (a .word) (compiled .compile-input .result) R Q (lent .before .record-memory .ensures .1)
     (lent .row-memory .ensures .1) (compiled .compile-input .ensures) _ (planned .before .before .least .result) (planned .least2 .result) _
     (counted .before .before .if1 .taken) (ap₂ _+_ (counted .before .number .ensures .0) (counted .number2 .ensures .0)) (planned .before .before .least .ensures .0)
-    (planned .least2 .ensures .0 ∙ ap (λ (k : ℕ). min k 32768) (planned .before .wide16 .ensures .0)) lr lq (c .evaluate .ensures)
+    (planned .least2 .ensures .0 ∙ ap (λ (k : ℕ). min (k * 2) 65536) (planned .before .wide16 .ensures .0)) lr lq (c .evaluate .ensures)
 
 returns-2 : tie.Need-returns-2
 returns-2 c =
@@ -104,6 +107,7 @@ evaluate-input-spec =
     mul-least
     least-requires
     wide16-requires
+    mul-least-2
     least-requires-2
     array-share-prefix-records
     slice-aggregate-evaluate

@@ -1,53 +1,56 @@
-use Prim.Native.Nat.{_-_, _≤_}
+-- `print_rows` meets its contract.
+-- Assumes nothing.
+use Prim.Native.Nat.{_-_, _*_, _≤_}
 use lib.ListN.{length}
 use borrow.Author.Needs.{needs}
 use Rattle.listing.proofs.print_rows.Statement.{statement}
 use Rattle.listing.proofs.print_rows.Tie as tie
-use Rattle.listing.proofs.print_rows.Reads as reads
-use Rattle.listing.proofs.print_rows.Lts as lts
-use Rattle.numbers.proofs.least.Reads as least-reads
-use Rattle.listing.proofs.print_next.Reads as print-next-reads
-use Rattle.numbers.proofs.wide.Reads as wide-reads
 
 abbrev Inv-loop : tie.InvT-loop
-Inv-loop rows at end last i₀ i = last ≤ length rows
+Inv-loop rows at end last i₀ i = last * 2 ≤ length rows
 
 abbrev μ-loop : tie.MeasureT-loop
 μ-loop rows at end last i₀ i = last - i
 
--- src/lib.rt:98:9
 least-requires : tie.Need-least-requires Inv-loop μ-loop
 least-requires c κs = search needs
 
--- src/lib.rt:100:5
 loop-holds : tie.Need-loop-holds Inv-loop μ-loop
 loop-holds c = search needs
 
--- src/lib.rt:101:25
-shared-slice-read-wide : tie.Need-shared-slice-read-wide Inv-loop μ-loop
-shared-slice-read-wide c = search needs
+mul-pair : tie.Need-mul-pair Inv-loop μ-loop
+mul-pair c = search needs
 
--- src/lib.rt:101:20
-wide-requires : tie.Need-wide-requires Inv-loop μ-loop
-wide-requires c κs = search needs
+shared-slice-read-pair : tie.Need-shared-slice-read-pair Inv-loop μ-loop
+shared-slice-read-pair c = search needs
 
--- src/lib.rt:101:9
+mul-pair-2 : tie.Need-mul-pair-2 Inv-loop μ-loop
+mul-pair-2 c = search needs
+
+add-pair : tie.Need-add-pair Inv-loop μ-loop
+add-pair c = search needs
+
+shared-slice-read-pair-2 : tie.Need-shared-slice-read-pair-2 Inv-loop μ-loop
+shared-slice-read-pair-2 c = search needs
+
+pair-requires : tie.Need-pair-requires Inv-loop μ-loop
+pair-requires c κs = search needs
+
+wide16-requires : tie.Need-wide16-requires Inv-loop μ-loop
+wide16-requires c κs = search needs
+
 print-next-requires : tie.Need-print-next-requires Inv-loop μ-loop
 print-next-requires c κs = search needs
 
--- src/lib.rt:102:9
 add-i : tie.Need-add-i Inv-loop μ-loop
 add-i c = search needs
 
--- src/lib.rt:100:5
 loop-less : tie.Need-loop-less Inv-loop μ-loop
 loop-less c = search needs
 
--- src/lib.rt:100:5
 loop-again : tie.Need-loop-again Inv-loop μ-loop
 loop-again c = search needs
 
--- src/lib.rt:97:1
 returns : tie.Need-returns Inv-loop μ-loop
 returns c = search needs
 
@@ -59,8 +62,13 @@ print-rows-spec =
     μ-loop
     least-requires
     loop-holds
-    shared-slice-read-wide
-    wide-requires
+    mul-pair
+    shared-slice-read-pair
+    mul-pair-2
+    add-pair
+    shared-slice-read-pair-2
+    pair-requires
+    wide16-requires
     print-next-requires
     add-i
     loop-less

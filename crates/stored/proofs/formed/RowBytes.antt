@@ -3,12 +3,12 @@
 use mathlib.Core.Path.{_≡_, sym, _∙_, ap}
 use mathlib.Core.Bool.{Bool, true, _&&_}
 use mathlib.Core.List.{List}
-use Prim.Native.Nat.{ℕ, zero, suc, _+_, _-_, _^_, _≤_, _<_}
+use Prim.Native.Nat.{ℕ, zero, suc, _+_, _-_, _*_, _/_, _^_, _≤_, _<_}
 use native.Mathlib.Omega.{arith}
 use lib.Bits.{bitOr, or-lt, or-add-and, and-le-l, and-le-r}
 use lib.Dec.{ltb}
-use lib.ListN.{length, take, drop, length-drop}
-use lib.Seq.{length-take-le, getD-take, getD-drop}
+use lib.ListN.{length, getD, take, drop, length-drop}
+use lib.Seq.{length-take-le}
 use lib.Pow.{pow-pos}
 use borrow.Author.Tests.{ltb-true, lt-ltb}
 use Rattle.laws.specs.Bits.{marks}
@@ -16,7 +16,9 @@ use Rattle.laws.specs.Tests.{every}
 use Rattle.laws.proofs.Cases.{and-split, and-join, same-test}
 use Rattle.laws.proofs.Marks.{marks-ext}
 use Rattle.laws.proofs.Tests.{every-of}
-use Rattle.stored.specs.Formed.{byteAt, bitsOf}
+use Rattle.stored_spec.specs.RowBytes.{twoBytes, rowValue, room}
+use Rattle.stored_spec.proofs.RowForms.{row-lt, row-part}
+use Rattle.stored.specs.Formed.{bitsOf}
 
 -- an or is below a power of 2 where both numbers are
 or-below : (n a b : ℕ) → ltb (bitOr a b) (2 ^ n) ≡ (ltb a (2 ^ n) && ltb b (2 ^ n))
@@ -40,20 +42,26 @@ marks-below n g (suc k) = or-below n (marks 0 g k) (g k) ∙ ap (λ (b : Bool). 
 
 module _ (rows : List ℕ) (at n : ℕ) where
   -- the bits of a part are those of its rows
-  part-bits : (count end : ℕ) → end ≡ at + count → end ≤ length rows → bitsOf (take (end - at) (drop at rows)) ≡ marks 0 (λ i. byteAt rows (at + i)) count
-  part-bits count end e l =
-      let some : end - at ≡ count = omega (arith, e) in
-      let size : length (take count (drop at rows)) ≡ count = length-take-le count (drop at rows) (omega (arith, length-drop at rows, l, e)) in
-      ap (λ (k : ℕ). bitsOf (take k (drop at rows))) some ∙ ap (marks 0 (byteAt (take count (drop at rows)))) size
-      ∙ marks-ext 0 (byteAt (take count (drop at rows))) (λ i. byteAt rows (at + i)) count
-      (λ i h. getD-take count (drop at rows) i 0 h ∙ getD-drop at rows i 0)
+  part-bits : (count : ℕ) → room twoBytes (at + count) ≤ length rows
+      → bitsOf (take ((at + count) * 2 - at * 2) (drop (at * 2) rows)) ≡ marks 0 (λ i. rowValue twoBytes rows (at + i)) count
+  unfolding room
+  part-bits count l =
+      let some : (at + count) * 2 - at * 2 ≡ count * 2 = omega arith in
+      let size : length (take (count * 2) (drop (at * 2) rows)) ≡ count * 2 =
+      length-take-le (count * 2) (drop (at * 2) rows) (omega (arith, length-drop (at * 2) rows, l)) in
+      let half : length (take (count * 2) (drop (at * 2) rows)) / 2 ≡ count = omega (arith, size) in
+      ap (λ (k : ℕ). bitsOf (take k (drop (at * 2) rows))) some
+      ∙ ap (marks 0 (rowValue twoBytes (take (count * 2) (drop (at * 2) rows)))) half
+      ∙ marks-ext 0 (rowValue twoBytes (take (count * 2) (drop (at * 2) rows))) (λ i. rowValue twoBytes rows (at + i)) count
+      (λ i h. row-part twoBytes rows at count i h)
 
-  pub bits-below : (count end : ℕ) → end ≡ at + count → end ≤ length rows
-      → ltb (bitsOf (take (end - at) (drop at rows))) (2 ^ n) ≡ every count (λ i. ltb (byteAt rows (at + i)) (2 ^ n))
-  bits-below count end e l = ap (λ (b : ℕ). ltb b (2 ^ n)) (part-bits count end e l) ∙ marks-below n (λ i. byteAt rows (at + i)) count
+  pub bits-below : (count : ℕ) → room twoBytes (at + count) ≤ length rows
+      → ltb (bitsOf (take ((at + count) * 2 - at * 2) (drop (at * 2) rows))) (2 ^ n) ≡ every count (λ i. ltb (rowValue twoBytes rows (at + i)) (2 ^ n))
+  bits-below count l = ap (λ (b : ℕ). ltb b (2 ^ n)) (part-bits count l) ∙ marks-below n (λ i. rowValue twoBytes rows (at + i)) count
 
-  -- any byte is below 2^8
-  pub bytes-below : n ≡ 8 → ((i : ℕ) → byteAt rows i < 256) → (count : ℕ) → true ≡ every count (λ i. ltb (byteAt rows (at + i)) (2 ^ n))
-  bytes-below e h count =
-      let p : 256 ≡ 2 ^ n = ap (λ (k : ℕ). 2 ^ k) (sym e) in
-      sym (every-of (λ i. ltb (byteAt rows (at + i)) (2 ^ n)) count (λ i l. lt-ltb (byteAt rows (at + i)) (2 ^ n) (omega (arith, p, h (at + i)))))
+  -- any row is below 2^16
+  pub any-below : n ≡ 16 → ((i : ℕ) → getD rows i 0 < 256) → (count : ℕ) → true ≡ every count (λ i. ltb (rowValue twoBytes rows (at + i)) (2 ^ n))
+  any-below e h count =
+      let p : 65536 ≡ 2 ^ n = ap (λ (k : ℕ). 2 ^ k) (sym e) in
+      sym (every-of (λ i. ltb (rowValue twoBytes rows (at + i)) (2 ^ n)) count
+      (λ i l. lt-ltb (rowValue twoBytes rows (at + i)) (2 ^ n) (omega (arith, p, row-lt twoBytes rows h (at + i)))))

@@ -3,12 +3,13 @@
 use mathlib.Core.Path.{_≡_, refl, sym, _∙_, ap, ap₂}
 use mathlib.Core.Bool.{Bool, true, false, cond, _&&_, and-false, false≢true, true≢false}
 use mathlib.Core.List.{List}
-use Prim.Native.Nat.{ℕ, _+_, _^_, _≤_, _<_}
+use Prim.Native.Nat.{ℕ, _+_, _*_, _^_, _≤_, _<_}
 use native.Mathlib.Omega.{arith}
 use lib.Dec.{eqb, leb}
 use borrow.Author.Tests.{leb-true, leb-false, lt-leb}
 use Rattle.laws.proofs.Cases.{by-test, and-split, and-left-no, cond-yes, cond-no}
 use Rattle.sheet_spec.specs.Limits.{largestInputs, largestOutputs}
+use Rattle.stored_spec.specs.RowBytes.{twoBytes, room}
 use Rattle.stored_spec.specs.Cells.{cell, fits}
 use Rattle.stored_spec.specs.StoredForm.{cutByte, rowCount, recordsFormed}
 use Rattle.stored_spec.proofs.StoredCells.{endInputs, endOutputs, cellsTo, fitAll, rowSum, fit-next, rows-next}
@@ -25,12 +26,12 @@ counted-more true false fit k h q = (λ e. omega (arith, h .0 refl, q), λ e. ab
 counted-more false cut fit k h q = (λ e. absurd (false≢true e), λ e. omega (arith, h .1 refl))
 
 pub turn-counted : {R : List ℕ} {i ins outs upper v cut rail more over : ℕ} (t : Turn R i ins outs upper v cut rail more over) {n m : ℕ}
-    → Counted (fitAll (cellsTo R i)) (rowSum (cellsTo R i)) n
+    → Counted (fitAll twoBytes (cellsTo R i)) (rowSum (cellsTo R i)) n
     → m ≡ cond (eqb cut 1) (cond (fits largestInputs largestOutputs (cell (upper + more) (over + rail))) (2 ^ (upper + more)) tooMany) 0
-    → Counted (fitAll (cellsTo R (i + 1))) (rowSum (cellsTo R (i + 1))) (n + m)
+    → Counted (fitAll twoBytes (cellsTo R (i + 1))) (rowSum (cellsTo R (i + 1))) (n + m)
 turn-counted {R} {i} {ins} {outs} {upper} {v} {cut} {rail} {more} {over} t {n} {m} h q =
-    rw (fit-next R i, rows-next R i)
-    (counted-more (fitAll (cellsTo R i)) (eqb (cutByte R i) 1) (fits largestInputs largestOutputs (cell (endInputs R i) (endOutputs R i)))
+    rw (fit-next R i twoBytes, rows-next R i)
+    (counted-more (fitAll twoBytes (cellsTo R i)) (eqb (cutByte R i) 1) (fits largestInputs largestOutputs (cell (endInputs R i) (endOutputs R i)))
     (2 ^ endInputs R i) h
     (q
     ∙ ap (λ (x : ℕ). cond (eqb x 1) (cond (fits largestInputs largestOutputs (cell (upper + more) (over + rail))) (2 ^ (upper + more)) tooMany) 0) (t .cut-is)
@@ -66,19 +67,14 @@ module _ (R : List ℕ) {n : ℕ} (q : n ≡ rowsWanted R) where
       by-test (recordsFormed R)
       (λ e.
       let few = q ∙ cond-yes (recordsFormed R) (rowCount R) tooMany e in
-      absurd (omega (arith, few, records-have R e .rows, l)))
+      absurd (omega (arith, few, records-have twoBytes R e .rows, l)))
       (λ e. e)
 
   pub wanted-test : leb n 32768 ≡ recordsFormed R
   wanted-test =
       by-test (leb n 32768) (λ e. e ∙ sym (wanted-few (leb-true n 32768 e) .0)) (λ e. e ∙ sym (wanted-many (leb-false n 32768 e)))
 
-  -- with the number of rows that there are
-  pub wanted-rows : (m : ℕ) → (leb n 32768 && eqb m n) ≡ (recordsFormed R && eqb m (rowCount R))
-  wanted-rows m =
-      by-test (leb n 32768)
-      (λ e.
-      let h = wanted-few (leb-true n 32768 e) in
-      ap (λ (b : Bool). b && eqb m n) (e ∙ sym (h .0)) ∙ ap (λ (k : ℕ). recordsFormed R && eqb m k) (h .1))
-      (λ e.
-      ap (λ (b : Bool). b && eqb m n) e ∙ sym (and-left-no (recordsFormed R) (eqb m (rowCount R)) (wanted-many (leb-false n 32768 e))))
+  -- as many bytes as the rows take
+  pub wanted-rows : n ≤ 32768 → (m : ℕ) → eqb m (n * 2) ≡ (recordsFormed R && eqb m (room twoBytes (rowCount R)))
+  unfolding room
+  wanted-rows l m = let h = wanted-few l in rw (h .0) (ap (λ (k : ℕ). eqb m (k * 2)) (h .1))

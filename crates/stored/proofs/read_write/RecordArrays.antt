@@ -10,6 +10,7 @@ use Rattle.laws.specs.Lists.{tab, puts}
 use Rattle.laws.specs.Bits.{flag}
 use Rattle.laws.proofs.Lists.{length-tab, tab-next, getD-tab, tab-ext, tab-of}
 use Rattle.laws.proofs.Puts.{sets-append, puts-ext, getD-puts}
+use Rattle.stored_spec.specs.RowBytes.{twoBytes}
 use Rattle.stored_spec.specs.StoredForm.{variable, recordCount, cutByte, railByte, wellFormed}
 use Rattle.stored_spec.specs.ReadWrite.{Record, recordBytes, noRecord, recordAt, cascadeOf, ReadAnswer, read}
 use Rattle.stored_spec.proofs.RecordBytes.{length-bytes, bytes-append, count-bytes}
@@ -56,7 +57,7 @@ taken-apart R n c variables cuts rails m e v u r =
 pub too-many : (rs : List Record) (bytes : List ℕ) → 20 < length rs → wellFormed (recordBytes rs) bytes ≡ false
 too-many rs bytes h =
     no-test (wellFormed (recordBytes rs) bytes)
-    (λ e. omega (arith, records-have (recordBytes rs) (formed-records (recordBytes rs) bytes e) .few, count-bytes rs))
+    (λ e. omega (arith, records-have twoBytes (recordBytes rs) (formed-records (recordBytes rs) bytes e) .few, count-bytes rs))
 
 -- a list stored at the front of another, and taken from there
 module _ (vs l : List ℕ) (fits : length vs ≤ length l) where
@@ -95,5 +96,5 @@ pub read-structure : (R bytes : List ℕ) → wellFormed R bytes ≡ true → re
 unfolding cascadeOf
 read-structure R bytes e =
     let rs : List Record = tab (recordCount R) (recordAt R) in
-    let few : length rs ≤ 20 = omega (arith, length-tab (recordAt R) (recordCount R), records-have R (formed-records R bytes e) .few) in
+    let few : length rs ≤ 20 = omega (arith, length-tab (recordAt R) (recordCount R), records-have twoBytes R (formed-records R bytes e) .few) in
     ap (λ (x : ReadAnswer). recordsOf (readAs x .records)) (read-formed R bytes e) ∙ structure-keeps rs few

@@ -83,6 +83,13 @@ add-total c =
     let w = sym (q .before .before .well-formed .ensures) ∙ not-false _ (q .before .if2 .left) in
     omega (arith, c .before .rows-before .ensures .1, c .row-count .ensures, block-has (a .records .now) (a .bytes .now) w .few)
 
+mul-if5 : tie.Need-mul-if5
+mul-if5 c =
+    let q = c .before .before .before .before .before .before .before in
+    let a = q .before .before .before .before .before .before .before .before .args in
+    let w = sym (q .before .before .well-formed .ensures) ∙ not-false _ (q .before .if2 .left) in
+    omega (arith, c .before .rows-before .ensures .1, c .row-count .ensures, block-has (a .records .now) (a .bytes .now) w .few)
+
 returns-5 : tie.Need-returns-5
 returns-5 c =
     let q = c .before .before .before .before .before .before .before .before in
@@ -91,6 +98,9 @@ returns-5 c =
     let w = sym (q .before .before .well-formed .ensures) ∙ not-false _ (q .before .if2 .left) in
     admit-11 (a .bank) (a .scan) (a .rows .now) (a .records .now) (a .bytes .now) f w (q .wide .ensures .0) (c .before .before .before .before .before .before .before .if3 .left) (c .before .before .before .before .before .before .cells-before .ensures .0) (c .before .before .before .before .before .cell-count .ensures)
     (c .before .before .before .if4 .left) (c .before .before .rows-before .ensures .0) (c .before .row-count .ensures) (c .if5 .taken)
+
+mul-copy-at : tie.Need-mul-copy-at
+mul-copy-at c = search needs
 
 copy-at-requires : tie.Need-copy-at-requires
 copy-at-requires c κs =
@@ -142,7 +152,9 @@ admit-block-spec =
     rows-before-requires
     row-count-requires
     add-total
+    mul-if5
     returns-5
+    mul-copy-at
     copy-at-requires
     with-block-requires
     at-rest-requires

@@ -1,10 +1,13 @@
 -- `bank::stepping::next_row` meets its contract.
 -- Assumes nothing.
-use mathlib.Core.Path.{_≡_, ap}
+use mathlib.Core.Path.{_≡_, sym, _∙_, ap}
 use Prim.Native.Nat.{ℕ, _+_, _*_, _≤_}
 use native.Mathlib.Omega.{arith}
+use Rattle.stored_spec.specs.RowBytes.{twoBytes, rowValue}
+use Rattle.stored_spec.proofs.Promises.{room-two, row-two}
 use lib.ListN.{length, getD}
 use denote.Ref.{now}
+use Rattle.bank_spec.specs.State.{rowsHeld}
 use Rattle.bank_spec.specs.Calls.{nextRow}
 use Rattle.bank.proofs.stepping.NextRead.{held, block-held, block-below, part-end, place-is, place-held}
 use borrow.Author.Needs.{needs}
@@ -73,8 +76,8 @@ rows-before-requires c κs =
     let h = held (s .args .bank) (s .args .scan) (s .pre .0) (s .pre .1) in
     (omega (arith, b, here, h .few), λ i l. h .blocks i (omega (arith, b, here, l)))
 
-add-result : tie.Need-add-result
-add-result c =
+add-at : tie.Need-add-at
+add-at c =
     let s = c .before .before .before .before .before .before .before .before .before .before .before in
     let b = c .before .before .before .before .before .before .before .before .before .wide .ensures .0 in
     let n = c .before .before .before .before .before .before .before .wide2 .ensures .0 in
@@ -83,28 +86,79 @@ add-result c =
     let start = c .rows-before .ensures .0 in
     let inside = place-held (s .args .bank) (s .args .scan) (s .pre .0) (s .pre .1) b n cell place start in
     let few = held (s .args .bank) (s .args .scan) (s .pre .0) (s .pre .1) .rows in
+    let space = room-two (rowsHeld (s .args .bank)) in
     record { fits = omega (arith, inside, few) }
 
-shared-slice-read-result : tie.Need-shared-slice-read-result
-shared-slice-read-result c =
+mul-at : tie.Need-mul-at
+mul-at c =
+    let s = c .before .before .before .before .before .before .before .before .before .before .before in
+    let b = c .before .before .before .before .before .before .before .before .before .wide .ensures .0 in
+    let n = c .before .before .before .before .before .before .before .wide2 .ensures .0 in
+    let cell = c .before .before .wide3 .ensures .0 in
+    let place = c .before .row-read .ensures in
+    let start = c .rows-before .ensures .0 in
+    let inside = place-held (s .args .bank) (s .args .scan) (s .pre .0) (s .pre .1) b n cell place start in
+    let few = held (s .args .bank) (s .args .scan) (s .pre .0) (s .pre .1) .rows in
+    let space = room-two (rowsHeld (s .args .bank)) in
+    record { fits = omega (arith, inside, few) }
+
+shared-slice-read-pair : tie.Need-shared-slice-read-pair
+shared-slice-read-pair c =
     let s = c .before .before .before .before .before .before .before .before .before .before .before .before in
     let b = c .before .before .before .before .before .before .before .before .before .before .wide .ensures .0 in
     let n = c .before .before .before .before .before .before .before .before .wide2 .ensures .0 in
     let cell = c .before .before .before .wide3 .ensures .0 in
     let place = c .before .before .row-read .ensures in
     let start = c .before .rows-before .ensures .0 in
-    omega (arith, place-held (s .args .bank) (s .args .scan) (s .pre .0) (s .pre .1) b n cell place start, s .pre .2)
+    let inside = place-held (s .args .bank) (s .args .scan) (s .pre .0) (s .pre .1) b n cell place start in
+    let few = held (s .args .bank) (s .args .scan) (s .pre .0) (s .pre .1) .rows in
+    let space = room-two (rowsHeld (s .args .bank)) in
+    omega (arith, inside, space, s .pre .2)
+
+add-pair : tie.Need-add-pair
+add-pair c =
+    let s = c .before .before .before .before .before .before .before .before .before .before .before .before in
+    let b = c .before .before .before .before .before .before .before .before .before .before .wide .ensures .0 in
+    let n = c .before .before .before .before .before .before .before .before .wide2 .ensures .0 in
+    let cell = c .before .before .before .wide3 .ensures .0 in
+    let place = c .before .before .row-read .ensures in
+    let start = c .before .rows-before .ensures .0 in
+    let inside = place-held (s .args .bank) (s .args .scan) (s .pre .0) (s .pre .1) b n cell place start in
+    let few = held (s .args .bank) (s .args .scan) (s .pre .0) (s .pre .1) .rows in
+    let space = room-two (rowsHeld (s .args .bank)) in
+    record { fits = omega (arith, inside, few) }
+
+shared-slice-read-pair-2 : tie.Need-shared-slice-read-pair-2
+shared-slice-read-pair-2 c =
+    let s = c .before .before .before .before .before .before .before .before .before .before .before .before .before in
+    let b = c .before .before .before .before .before .before .before .before .before .before .before .wide .ensures .0 in
+    let n = c .before .before .before .before .before .before .before .before .before .wide2 .ensures .0 in
+    let cell = c .before .before .before .before .wide3 .ensures .0 in
+    let place = c .before .before .before .row-read .ensures in
+    let start = c .before .before .rows-before .ensures .0 in
+    let inside = place-held (s .args .bank) (s .args .scan) (s .pre .0) (s .pre .1) b n cell place start in
+    let few = held (s .args .bank) (s .args .scan) (s .pre .0) (s .pre .1) .rows in
+    let space = room-two (rowsHeld (s .args .bank)) in
+    omega (arith, inside, space, s .pre .2)
+
+pair-requires : tie.Need-pair-requires
+pair-requires c κs = search needs
 
 returns : tie.Need-returns
 unfolding nextRow
 returns c =
-    let s = c .before .before .before .before .before .before .before .before .before .before .before .before in
-    let b = c .before .before .before .before .before .before .before .before .before .before .wide .ensures .0 in
-    let n = c .before .before .before .before .before .before .before .before .wide2 .ensures .0 in
-    let cell = c .before .before .before .wide3 .ensures .0 in
-    let place = c .before .before .row-read .ensures in
-    let start = c .before .rows-before .ensures .0 in
-    ap (λ (i : ℕ). getD (now (s .args .rows)) i 0) (place-is (s .args .bank) (s .args .scan) (s .pre .0) (s .pre .1) b n cell place start)
+    let s = c .before .before .before .before .before .before .before .before .before .before .before .before .before .before in
+    let b = c .before .before .before .before .before .before .before .before .before .before .before .before .wide .ensures .0 in
+    let n = c .before .before .before .before .before .before .before .before .before .before .wide2 .ensures .0 in
+    let cell = c .before .before .before .before .before .wide3 .ensures .0 in
+    let place = c .before .before .before .before .row-read .ensures in
+    let start = c .before .before .before .rows-before .ensures .0 in
+    let inside = place-held (s .args .bank) (s .args .scan) (s .pre .0) (s .pre .1) b n cell place start in
+    let few = held (s .args .bank) (s .args .scan) (s .pre .0) (s .pre .1) .rows in
+    let space = room-two (rowsHeld (s .args .bank)) in
+    let rows = now (s .args .rows) in
+    c .pair .ensures ∙ sym (row-two rows _)
+    ∙ ap (rowValue twoBytes rows) (place-is (s .args .bank) (s .args .scan) (s .pre .0) (s .pre .1) b n cell place start)
 
 pub next-row-spec : {M : Type 1} → statement M
 next-row-spec =
@@ -125,6 +179,10 @@ next-row-spec =
     array-read-row-read
     row-read-requires
     rows-before-requires
-    add-result
-    shared-slice-read-result
+    add-at
+    mul-at
+    shared-slice-read-pair
+    add-pair
+    shared-slice-read-pair-2
+    pair-requires
     returns)

@@ -2,9 +2,10 @@
 -- Assumes nothing.
 use mathlib.Core.Path.{sym, _∙_, ap}
 use native.Mathlib.Omega.{arith}
+use Rattle.stored_spec.proofs.Promises.{room-two}
 use borrow.Author.Tests.{not-true, not-false}
 use denote.Ref.{now}
-use Rattle.bank_spec.specs.State.{rowsBefore}
+use Rattle.bank_spec.specs.State.{rowsBefore, rowsHeld}
 use Rattle.bank.proofs.stepping.NextRead.{held}
 use Rattle.bank.proofs.stepping.StepCases.{not-formed, no-scan, few-rows, one-read}
 use borrow.Author.Needs.{needs}
@@ -39,6 +40,9 @@ rows-before-requires c κs =
     let h = held (s .args .bank) (s .args .scan) e on in
     (omega (arith, c .wide .ensures .0, h .few), λ i l. h .blocks i (omega (arith, c .wide .ensures .0, l)))
 
+mul-if3 : tie.Need-mul-if3
+mul-if3 c = search needs
+
 returns-3 : tie.Need-returns-3
 returns-3 c =
     let s = c .before .before .before .before .before .before .before .before in
@@ -46,7 +50,7 @@ returns-3 c =
     let e = sym (f .ensures) ∙ not-false (f .result) (c .before .before .before .before .before .if1 .left) in
     let on = not-false (s .args .scan .running) (c .before .before .before .if2 .left) in
     let all = c .before .rows-before .ensures .0 ∙ ap (rowsBefore (s .args .bank)) (c .before .before .wide .ensures .0) in
-    few-rows (s .args .bank) (s .args .scan) (now (s .args .rows)) e on (omega (arith, all, c .if3 .taken))
+    few-rows (s .args .bank) (s .args .scan) (now (s .args .rows)) e on (omega (arith, all, c .if3 .taken, room-two (rowsHeld (s .args .bank))))
 
 next-row-requires : tie.Need-next-row-requires
 next-row-requires c κs =
@@ -55,7 +59,7 @@ next-row-requires c κs =
     let e = sym (f .ensures) ∙ not-false (f .result) (c .before .before .before .before .before .if1 .left) in
     let on = not-false (s .args .scan .running) (c .before .before .before .if2 .left) in
     let all = c .before .rows-before .ensures .0 ∙ ap (rowsBefore (s .args .bank)) (c .before .before .wide .ensures .0) in
-    (e, on, omega (arith, all, c .if3 .left))
+    (e, on, omega (arith, all, c .if3 .left, room-two (rowsHeld (s .args .bank))))
 
 moved-on-requires : tie.Need-moved-on-requires
 moved-on-requires c κs =
@@ -73,7 +77,7 @@ returns-4 c =
     let on = not-false (s .args .scan .running) (c .before .before .before .before .before .if2 .left) in
     let all =
     c .before .before .before .rows-before .ensures .0 ∙ ap (rowsBefore (s .args .bank)) (c .before .before .before .before .wide .ensures .0) in
-    one-read (s .args .bank) (s .args .scan) (now (s .args .rows)) e on (omega (arith, all, c .before .before .if3 .left))
+    one-read (s .args .bank) (s .args .scan) (now (s .args .rows)) e on (omega (arith, all, c .before .before .if3 .left, room-two (rowsHeld (s .args .bank))))
     (c .before .next-row .ensures) (c .moved-on .ensures)
 
 pub step-once-spec : {M : Type 1} → statement M
@@ -85,6 +89,7 @@ step-once-spec =
     returns-2
     wide-requires
     rows-before-requires
+    mul-if3
     returns-3
     next-row-requires
     moved-on-requires

@@ -27,7 +27,7 @@ returns : tie.Need-returns
 returns c =
     let l = now (c .before .before .before .before .args .line) in
     let e : begins memoryWord l ≡ false = sym (c .before .begins .ensures) ∙ not-true _ (c .if1 .taken) in
-    memory-bad l (and-left-no (begins memoryWord l && isNumber (drop 7 l)) (leb (decimal (drop 7 l)) 32768) (and-left-no (begins memoryWord l) (isNumber (drop 7 l)) e))
+    memory-bad l (and-left-no (begins memoryWord l && isNumber (drop 7 l)) (leb (decimal (drop 7 l)) 65536) (and-left-no (begins memoryWord l) (isNumber (drop 7 l)) e))
 
 sub-is-number : tie.Need-sub-is-number
 sub-is-number c = memory-long (now (c .before .before .before .before .args .line)) (sym (c .before .begins .ensures) ∙ not-false _ (c .if1 .left))
@@ -45,7 +45,7 @@ returns-2 : tie.Need-returns-2
 returns-2 c =
     let l = now (c .before .before .before .before .before .before .before .args .line) in
     let e : isNumber (drop 7 l) ≡ false = ap isNumber (sym (rest-all 7 l)) ∙ sym (c .before .is-number .ensures) ∙ not-true _ (c .if2 .taken) in
-    memory-bad l (and-left-no (begins memoryWord l && isNumber (drop 7 l)) (leb (decimal (drop 7 l)) 32768) (and-no (begins memoryWord l) (isNumber (drop 7 l)) e))
+    memory-bad l (and-left-no (begins memoryWord l && isNumber (drop 7 l)) (leb (decimal (drop 7 l)) 65536) (and-no (begins memoryWord l) (isNumber (drop 7 l)) e))
 
 sub-number : tie.Need-sub-number
 sub-number c = memory-long (now (c .before .before .before .before .before .before .before .args .line)) (sym (c .before .before .before .before .begins .ensures) ∙ not-false _ (c .before .before .before .if1 .left))
@@ -65,15 +65,15 @@ returns-3 c =
     let b : begins memoryWord l ≡ true = sym (c .before .before .before .before .before .before .before .begins .ensures) ∙ not-false _ (c .before .before .before .before .before .before .if1 .left) in
     let i : isNumber (drop 7 l) ≡ true = ap isNumber (sym (rest-all 7 l)) ∙ sym (c .before .before .before .before .is-number .ensures) ∙ not-false _ (c .before .before .before .if2 .left) in
     let d : c .before .number .result ≡ decimal (drop 7 l) = c .before .number .ensures .0 ∙ ap decimal (rest-all 7 l) in
-    let few : decimal (drop 7 l) ≤ 32768 = omega (arith, d, c .if3 .taken) in
-    memory-good l (c .before .number .result) d (and-join (and-join b i) (le-leb (decimal (drop 7 l)) 32768 few))
+    let few : decimal (drop 7 l) ≤ 65536 = omega (arith, d, c .if3 .taken) in
+    memory-good l (c .before .number .result) d (and-join (and-join b i) (le-leb (decimal (drop 7 l)) 65536 few))
 
 returns-4 : tie.Need-returns-4
 returns-4 c =
     let l = now (c .before .before .before .before .before .before .before .before .before .before .args .line) in
     let d : c .before .number .result ≡ decimal (drop 7 l) = c .before .number .ensures .0 ∙ ap decimal (rest-all 7 l) in
-    let many : 32768 < decimal (drop 7 l) = omega (arith, d, c .if3 .left) in
-    memory-bad l (and-no (begins memoryWord l && isNumber (drop 7 l)) (leb (decimal (drop 7 l)) 32768) (lt-leb (decimal (drop 7 l)) 32768 many))
+    let many : 65536 < decimal (drop 7 l) = omega (arith, d, c .if3 .left) in
+    memory-bad l (and-no (begins memoryWord l && isNumber (drop 7 l)) (leb (decimal (drop 7 l)) 65536) (lt-leb (decimal (drop 7 l)) 65536 many))
 
 pub memory-line-spec : {M : Type 1} → statement M
 memory-line-spec =

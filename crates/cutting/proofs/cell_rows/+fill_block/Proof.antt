@@ -67,6 +67,9 @@ last-row-requires t c κs =
     let p = c .before .before .before .pre .1 in
     (p .0, p .1, p .2, omega (arith, single-row (now (a .words)) (now (a .order)) (a .bottom) (a .lower) (a .rails) (a .k) (a .node) (a .o) (a .count) (a .x) (c .if1 .taken), p .6 0 (pow-pos (a .count))))
 
+mul-rows : (t : ℕ) → lts.Need-mul-rows (calls t) (here t) fill-block.Post
+mul-rows t c = search needs
+
 slice-write-rows : (t : ℕ) → lts.Need-slice-write-rows (calls t) (here t) fill-block.Post
 slice-write-rows t c =
     let a = c .before .before .before .before .args in
@@ -267,6 +270,7 @@ pub +fill-block-spec : {M : Type 1} → statement M
     (here t)
     fill-block.Post
     (last-row-requires t)
+    (mul-rows t)
     (slice-write-rows t)
     (same-length t)
     (returns t)

@@ -15,6 +15,9 @@ use Rattle.cutting.proofs.cell_rows.write_column.Tie as tie
 heights-requires : tie.Need-heights-requires
 heights-requires c κs = search needs
 
+mul-fill-block : tie.Need-mul-fill-block
+mul-fill-block c = search needs
+
 sub-fill-block : tie.Need-sub-fill-block
 sub-fill-block c = search needs
 
@@ -55,6 +58,7 @@ write-column-spec =
     tie.close
     (tie.spec
     heights-requires
+    mul-fill-block
     sub-fill-block
     part-fill-block-start
     part-fill-block-end

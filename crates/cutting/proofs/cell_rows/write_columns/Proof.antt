@@ -8,7 +8,7 @@ use Rattle.laws.specs.Lists.{putsAt}
 use Rattle.laws.proofs.Lists.{row-end}
 use Rattle.laws.proofs.Puts.{putsAt-none, length-putsAt}
 use Rattle.cutting.specs.RowWalks.{walkedRow}
-use Rattle.cutting.proofs.cell_rows.RowSteps.{column-byte, column-more}
+use Rattle.cutting.proofs.cell_rows.RowSteps.{column-small, column-more}
 use Rattle.cutting.proofs.cell_rows.BlockRows.{few-inputs}
 use native.Mathlib.Omega.{arith}
 use borrow.Author.Needs.{needs}
@@ -72,7 +72,7 @@ write-column-requires c κs =
       p .1,
       few-inputs (a .count) (a .size) (p .1) (p .2),
       omega (arith, row-end (l .c) (a .width) (a .size) t, p .4, ap length (l .inv .1) ∙ length-putsAt f (a .at) (l .c * a .size) (a .rows .now)),
-      λ x h. column-byte (a .words .now) (a .order .now) (a .top) (a .bottom) (a .upper) (a .width) (a .lower) (a .rails) (a .count) (a .size) (p .1) (p .5)
+      λ x h. column-small (a .words .now) (a .order .now) (a .top) (a .bottom) (a .upper) (a .width) (a .lower) (a .rails) (a .count) (a .size) (p .1) (p .5)
           (l .c) (c .before .narrow16 .result) x t v h,
     )
 

@@ -22,6 +22,9 @@ loop-holds c = (omega arith, sym (putsAt-none (λ i. c .args .row) (c .args .at)
 add-rows : tie.Need-add-rows Inv-loop μ-loop
 add-rows c = search needs
 
+mul-rows : tie.Need-mul-rows Inv-loop μ-loop
+mul-rows c = search needs
+
 slice-write-rows : tie.Need-slice-write-rows Inv-loop μ-loop
 slice-write-rows c =
     let l = c .before .loop in
@@ -60,6 +63,7 @@ write-same-spec =
     μ-loop
     loop-holds
     add-rows
+    mul-rows
     slice-write-rows
     add-i
     loop-less

@@ -3,7 +3,7 @@
 use mathlib.Core.Path.{_∙_, ap, ap₂}
 use Prim.Native.Nat.{ℕ, _-_}
 use Rattle.stored_spec.specs.Cells.{usableRows}
-use Rattle.cutting.proofs.cells.RowsStored.{CellNumbers, columns-among, walked-byte, walked-stored}
+use Rattle.cutting.proofs.cells.RowsStored.{CellNumbers, columns-among, walked-small, walked-stored}
 use native.Mathlib.Omega.{arith}
 use borrow.Author.Needs.{needs}
 use Rattle.cutting.proofs.cells.write_cell.Statement.{statement}
@@ -104,7 +104,7 @@ write-rows-requires c κs =
       omega (arith, n .upper-is, n .width-is, p .2 .nodes),
       columns-among n (a .words .now) (a .order .now) (p .2),
       omega (arith, n .size-is, p .3),
-      walked-byte n (a .words .now) (a .order .now) (p .2),
+      walked-small n (a .words .now) (a .order .now) (p .2),
     )
 
 same-length : tie.Need-same-length

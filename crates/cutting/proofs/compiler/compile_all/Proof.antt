@@ -89,11 +89,11 @@ add-write-records c = record { fits = one-fits (c .before .before .before .befor
 write-records-requires : tie.Need-write-records-requires
 write-records-requires c κs = records-fit (kept-here (c .before .before .before .before .before .before .before .before .before .before .before .before .before)) (c .before .before .before .before .before .before .before .before .before .wide .result) (c .before .before .before .before .before .before .before .before .before .wide .ensures .0)
 
-write-cells-requires : tie.Need-write-cells-requires
-write-cells-requires c κs = cells-fit (kept-here (c .before .before .before .before .before .before .before .before .before .before .before .before .before .before .before .before .before .before)) (c .before .before .before .before .before .before .before .before .before .before .before .before .before .before .wide .result) (c .before .before .before .before .before .before .before .before .before .before .before .before .before .before .wide .ensures .0)
+write-row-bytes-requires : tie.Need-write-row-bytes-requires
+write-row-bytes-requires c κs = cells-fit (kept-here (c .before .before .before .before .before .before .before .before .before .before .before .before .before .before .before .before .before .before)) (c .before .before .before .before .before .before .before .before .before .before .before .before .before .before .wide .result) (c .before .before .before .before .before .before .before .before .before .before .before .before .before .before .wide .ensures .0)
 
 narrow16-requires : tie.Need-narrow16-requires
-narrow16-requires c κs = kept-here (c .before .before .before .before .before .before .before .before .before .before .before .before .before .before .before .before .before .before .before .before .before) .rows-few
+narrow16-requires c κs = omega (arith, kept-here (c .before .before .before .before .before .before .before .before .before .before .before .before .before .before .before .before .before .before .before .before .before) .rows-few)
 
 same-length : tie.Need-same-length
 same-length c = c .before .before .before .before .before .before .before .before .before .before .before .before .write-words .kept .1 .1 .0
@@ -102,12 +102,12 @@ same-length-2 : tie.Need-same-length-2
 same-length-2 c = c .before .before .before .before .before .before .before .before .write-records .kept .1 .1 .1 .1 .1 .0
 
 same-length-3 : tie.Need-same-length-3
-same-length-3 c = c .before .before .before .write-cells .kept .1 .1 .1 .1 .1 .1 .1 .1 .0
+same-length-3 c = c .before .before .before .write-row-bytes .kept .1 .1 .1 .1 .1 .1 .1 .1 .1 .0
 
 returns-3 : tie.Need-returns-3
 returns-3 c =
     accepted-late (kept-here (c .before .before .before .before .before .before .before .before .before .before .before .before .before .before .before .before .before .before .before .before .before .before)) (c .before .before .before .before .before .before .before .before .before .before .before .before .before .before .before .before .before .before .wide .result) (c .before .before .before .before .before .before .before .before .before .before .before .before .before .before .before .before .before .before .wide .ensures .0) _ _ _ (c .before .before .before .before .before .before .before .before .before .before .before .before .before .before .wide16 .result) _ (c .before .before .before .before .before .before .before .before .before .before .before .before .before .before .wide16 .ensures .0) (c .narrow16 .ensures) (c .before .before .before .before .before .before .before .before .before .before .before .before .write-words .ensures)
-    (c .before .before .before .before .before .before .before .before .write-records .ensures) (c .before .before .before .write-cells .ensures)
+    (c .before .before .before .before .before .before .before .before .write-records .ensures) (c .before .before .before .write-row-bytes .ensures)
 
 pub compile-all-spec : {M : Type 1} → statement M
 compile-all-spec =
@@ -127,7 +127,7 @@ compile-all-spec =
     write-words-requires
     add-write-records
     write-records-requires
-    write-cells-requires
+    write-row-bytes-requires
     narrow16-requires
     same-length
     same-length-2

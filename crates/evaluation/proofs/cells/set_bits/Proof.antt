@@ -4,6 +4,7 @@ use mathlib.Core.Path.{sym, subst}
 use Prim.Native.Nat.{ℕ, _+_, _-_}
 use native.Mathlib.Omega.{arith}
 use denote.Ref.{now}
+use Rattle.stored_spec.specs.RowBytes.{twoBytes}
 use Rattle.stored_spec.proofs.FormedCells.{small-output}
 use Rattle.stored_spec.proofs.StoredParts.{records-have}
 use Rattle.evaluation.proofs.cells.CellBits.{SetTo, set-none, some-bit, few-bits, set-more, set-all}
@@ -32,7 +33,7 @@ mul-wide c =
     let pre = c .before .before .before .pre in
     let l = c .before .loop in
     let R = now (a .records) in
-    let have = records-have R (pre .0) in
+    let have = records-have twoBytes R (pre .0) in
     omega (arith, c .loop-test .taken, pre .1, have .few)
 
 shared-slice-read-wide : tie.Need-shared-slice-read-wide Inv-loop μ-loop
@@ -41,7 +42,7 @@ shared-slice-read-wide c =
     let pre = c .before .before .before .before .pre in
     let l = c .before .before .loop in
     let R = now (a .records) in
-    let have = records-have R (pre .0) in
+    let have = records-have twoBytes R (pre .0) in
     omega (arith, c .before .loop-test .taken, pre .1, have .whole)
 
 wide-requires : tie.Need-wide-requires Inv-loop μ-loop
@@ -53,7 +54,7 @@ store-bits-requires c κs =
     let pre = c .before .before .before .before .before .before .before .pre in
     let l = c .before .before .before .before .before .loop in
     let R = now (a .records) in
-    let have = records-have R (pre .0) in
+    let have = records-have twoBytes R (pre .0) in
     let more = c .before .before .before .before .loop-test .taken in
     let read = c .before .before .wide .ensures .0 in (
       λ h. (
@@ -69,7 +70,7 @@ add-i c =
     let pre = c .before .before .before .before .before .before .before .before .pre in
     let l = c .before .before .before .before .before .before .loop in
     let R = now (a .records) in
-    let have = records-have R (pre .0) in
+    let have = records-have twoBytes R (pre .0) in
     omega (arith, c .before .before .before .before .before .loop-test .taken, pre .1, have .few)
 
 loop-less : tie.Need-loop-less Inv-loop μ-loop

@@ -4,6 +4,7 @@ use mathlib.Core.Path.{sym, _∙_, ap, ap₂, subst}
 use native.Mathlib.Omega.{arith}
 use denote.Ref.{now}
 use borrow.Author.Tests.{ne-eqb}
+use Rattle.stored_spec.specs.RowBytes.{twoBytes}
 use Rattle.stored_spec.specs.StoredForm.{cutByte}
 use Rattle.stored_spec.proofs.ReadWriteCases.{formed-records}
 use Rattle.stored_spec.proofs.FormedCells.{small-input}
@@ -21,7 +22,7 @@ mul-wide c =
     let a = c .before .before .args in
     let pre = c .before .before .pre in
     let R = now (a .records) in
-    let have = records-have R (formed-records R (now (a .rows)) (pre .0)) in
+    let have = records-have twoBytes R (formed-records R (now (a .rows)) (pre .0)) in
     omega (arith, pre .1, have .few)
 
 shared-slice-read-wide : tie.Need-shared-slice-read-wide
@@ -29,7 +30,7 @@ shared-slice-read-wide c =
     let a = c .before .before .before .args in
     let pre = c .before .before .before .pre in
     let R = now (a .records) in
-    let have = records-have R (formed-records R (now (a .rows)) (pre .0)) in
+    let have = records-have twoBytes R (formed-records R (now (a .rows)) (pre .0)) in
     omega (arith, pre .1, have .whole)
 
 wide-requires : tie.Need-wide-requires
@@ -40,7 +41,7 @@ with-variable-requires c κs =
     let a = c .before .before .before .before .args in
     let pre = c .before .before .before .before .pre in
     let R = now (a .records) in
-    let have = records-have R (formed-records R (now (a .rows)) (pre .0)) in
+    let have = records-have twoBytes R (formed-records R (now (a .rows)) (pre .0)) in
     let f = subst (λ (x : Begun). Few R (a .known) (a .word) x) (sym (pre .4)) (begun-keeps R (a .known) (a .word) (a .i) (omega (arith, pre .1, have .few))) in
     let v = c .wide .ensures .0 in
     (λ h. omega (arith, v, small-input R (a .i) (have .each (a .i) (pre .1)) (omega (arith, v, h))), pre .2, pre .3, f .ins, f .outs, f .mask, f .value, f .count)
@@ -50,7 +51,7 @@ mul-if1 c =
     let a = c .before .before .before .before .before .args in
     let pre = c .before .before .before .before .before .pre in
     let R = now (a .records) in
-    let have = records-have R (formed-records R (now (a .rows)) (pre .0)) in
+    let have = records-have twoBytes R (formed-records R (now (a .rows)) (pre .0)) in
     omega (arith, pre .1, have .few)
 
 add-if1 : tie.Need-add-if1
@@ -58,7 +59,7 @@ add-if1 c =
     let a = c .before .before .before .before .before .args in
     let pre = c .before .before .before .before .before .pre in
     let R = now (a .records) in
-    let have = records-have R (formed-records R (now (a .rows)) (pre .0)) in
+    let have = records-have twoBytes R (formed-records R (now (a .rows)) (pre .0)) in
     omega (arith, pre .1, have .few)
 
 shared-slice-read-if1 : tie.Need-shared-slice-read-if1
@@ -66,27 +67,28 @@ shared-slice-read-if1 c =
     let a = c .before .before .before .before .before .before .args in
     let pre = c .before .before .before .before .before .before .pre in
     let R = now (a .records) in
-    let have = records-have R (formed-records R (now (a .rows)) (pre .0)) in
+    let have = records-have twoBytes R (formed-records R (now (a .rows)) (pre .0)) in
     omega (arith, pre .1, have .whole)
 
 end-cell-requires : tie.Need-end-cell-requires
 end-cell-requires c κs =
-    let a = c .before .before .before .before .before .before .before .before .before .before .args in
-    let pre = c .before .before .before .before .before .before .before .before .before .before .pre in
-    let R = now (a .records) in
-    (pre .0, pre .1, c .before .before .before .if1 .taken, c .before .before .before .before .before .with-variable .ensures ∙ ap₂ (withVar (a .known) (a .word)) (pre .4) (c .before .before .before .before .before .before .wide .ensures .0) ∙ begun-with R (a .known) (a .word) (a .i), pre .5)
-
-returns : tie.Need-returns
-returns c =
     let a = c .before .before .before .before .before .before .before .before .before .before .before .args in
     let pre = c .before .before .before .before .before .before .before .before .before .before .before .pre in
     let R = now (a .records) in
-    let n = sym (ended-next R (a .i) (pre .1) (c .before .before .before .before .if1 .taken)) in
+    (pre .0, pre .1, c .before .before .before .before .if1 .taken, c .before .before .before .before .before .before .with-variable .ensures ∙ ap₂ (withVar (a .known) (a .word)) (pre .4) (c .before .before .before .before .before .before .before .wide .ensures .0) ∙ begun-with R (a .known) (a .word) (a .i), pre .5, pre .6)
+
+returns : tie.Need-returns
+returns c =
+    let a = c .before .before .before .before .before .before .before .before .before .before .before .before .args in
+    let pre = c .before .before .before .before .before .before .before .before .before .before .before .before .pre in
+    let R = now (a .records) in
+    let n = sym (ended-next R (a .i) (pre .1) (c .before .before .before .before .before .if1 .taken)) in
     let e = c .end-cell .ensures in (
       e .0,
       e .1 ∙ ap (railSet (a .known) (a .word) R (now (a .rows))) n,
-      e .2 (pre .6) ∙ ap (someOuts (a .known) (a .word) R (now (a .rows))) n,
-      e .3 (pre .7) ∙ ap (eachOuts (a .known) (a .word) R (now (a .rows))) n,
+      e .2,
+      e .3 (pre .7) ∙ ap (someOuts (a .known) (a .word) R (now (a .rows))) n,
+      e .4 (pre .8) ∙ ap (eachOuts (a .known) (a .word) R (now (a .rows))) n,
     )
 
 returns-2 : tie.Need-returns-2
@@ -98,8 +100,9 @@ returns-2 c =
     let n = sym (ended-same R (a .i) no) in (
       c .before .before .with-variable .ensures ∙ ap₂ (withVar (a .known) (a .word)) (pre .4) (c .before .before .before .wide .ensures .0) ∙ begun-with R (a .known) (a .word) (a .i) ∙ begun-uncut R (a .known) (a .word) (a .i) no,
       pre .5 ∙ ap (railSet (a .known) (a .word) R (now (a .rows))) n,
-      pre .6 ∙ ap (someOuts (a .known) (a .word) R (now (a .rows))) n,
-      pre .7 ∙ ap (eachOuts (a .known) (a .word) R (now (a .rows))) n,
+      pre .6,
+      pre .7 ∙ ap (someOuts (a .known) (a .word) R (now (a .rows))) n,
+      pre .8 ∙ ap (eachOuts (a .known) (a .word) R (now (a .rows))) n,
     )
 
 pub turn-spec : {M : Type 1} → statement M

@@ -22,17 +22,11 @@ loop-holds : tie.Need-loop-holds Inv-loop μ-loop
 unfolding oneRail
 loop-holds c = (omega arith, λ s. few-none _ _ s)
 
-add-some : tie.Need-add-some Inv-loop μ-loop
-add-some c = search needs
+add-row-at : tie.Need-add-row-at Inv-loop μ-loop
+add-row-at c = search needs
 
-shared-slice-read-some : tie.Need-shared-slice-read-some Inv-loop μ-loop
-shared-slice-read-some c = search needs
-
-add-each : tie.Need-add-each Inv-loop μ-loop
-add-each c = search needs
-
-shared-slice-read-each : tie.Need-shared-slice-read-each Inv-loop μ-loop
-shared-slice-read-each c = search needs
+row-at-requires : tie.Need-row-at-requires Inv-loop μ-loop
+row-at-requires c κs = search needs
 
 add-j : tie.Need-add-j Inv-loop μ-loop
 add-j c = search needs
@@ -42,16 +36,16 @@ loop-less c = search needs
 
 loop-again : tie.Need-loop-again Inv-loop μ-loop
 loop-again c =
-    let l = c .before .before .before .loop in
+    let l = c .before .before .loop in
     let a = c .before .before .before .before .args in
-    (omega (arith, c .before .before .loop-test .taken), λ s. plain-next (a .rows .now) (a .first) (l .j) (gatheredOf (a .seen) s) s (l .inv .1 s))
+    (omega (arith, c .before .loop-test .taken), λ s. plain-next (a .rows .now) (a .first) (l .j) (gatheredOf (a .seen) s) s (c .row-at .ensures) (l .inv .1 s))
 
 returns : tie.Need-returns Inv-loop μ-loop
 returns c = λ s.
     let l = c .before .loop in
-    let a = c .before .before .args in
+    let a = c .before .before .before .args in
     let e : l .j ≡ a .count = omega (arith, l .inv .0, c .loop-test .left) in
-    ap (λ (b : ℕ). fewAs (l .some) (l .each) b s) (sym (ap oneRail e ∙ one-rail (a .count) (c .before .before .pre .1))) ∙ l .inv .1 s
+    ap (λ (b : ℕ). fewAs (l .some) (l .each) b s) (sym (ap oneRail e ∙ one-rail (a .count) (c .before .before .before .pre .1))) ∙ l .inv .1 s
     ∙ ap (λ (n : ℕ). inTurn n (plainRow (a .rows .now) (a .first) 0) (gatheredOf (a .seen) s)) e
 
 pub read-all-spec : {M : Type 1} → statement M
@@ -61,10 +55,8 @@ read-all-spec =
     Inv-loop
     μ-loop
     loop-holds
-    add-some
-    shared-slice-read-some
-    add-each
-    shared-slice-read-each
+    add-row-at
+    row-at-requires
     add-j
     loop-less
     loop-again

@@ -25,25 +25,25 @@ loop-holds : tie.Need-loop-holds Inv-loop μ-loop
 unfolding partOf
 loop-holds c = (omega arith, refl, λ s. few-none _ _ s)
 
-add-x : tie.Need-add-x Inv-loop μ-loop
-add-x c =
+add-row-at : tie.Need-add-row-at Inv-loop μ-loop
+add-row-at c =
     let a = c .before .before .before .args in
     let l = c .before .loop in
     omega (arith, part-le (a .mask) (a .free) (l .j), l .inv .1)
 
-shared-slice-read-x : tie.Need-shared-slice-read-x Inv-loop μ-loop
-shared-slice-read-x c =
-    let a = c .before .before .before .before .args in
-    let l = c .before .before .loop in
+row-at-requires : tie.Need-row-at-requires Inv-loop μ-loop
+row-at-requires c κs =
+    let a = c .before .before .before .args in
+    let l = c .before .loop in
     omega (arith, part-le (a .mask) (a .free) (l .j), l .inv .1)
 
-wide-requires : tie.Need-wide-requires Inv-loop μ-loop
-wide-requires c κs = search needs
+wide16-requires : tie.Need-wide16-requires Inv-loop μ-loop
+wide16-requires c κs = search needs
 
 shl-rails : tie.Need-shl-rails Inv-loop μ-loop
 shl-rails c =
     let a = c .before .before .before .before .before .args in
-    omega (arith, and-le-r (c .wide .result) (a .low), c .before .before .before .before .before .pre .2)
+    omega (arith, and-le-r (c .wide16 .result) (a .low), c .before .before .before .before .before .pre .2)
 
 add-part : tie.Need-add-part Inv-loop μ-loop
 add-part c =
@@ -67,10 +67,10 @@ loop-again : tie.Need-loop-again Inv-loop μ-loop
 loop-again c =
     let a = c .before .before .before .before .before .args in
     let l = c .before .before .before .loop in
-    let few : bitAnd (c .wide .result) (a .low) < 64 = omega (arith, and-le-r (c .wide .result) (a .low), c .before .before .before .before .before .pre .2) in (
+    let few : bitAnd (c .wide16 .result) (a .low) < 64 = omega (arith, and-le-r (c .wide16 .result) (a .low), c .before .before .before .before .before .pre .2) in (
       omega (arith, c .before .before .loop-test .taken),
       part-next (a .mask) (a .free) (l .j) (l .inv .1),
-      λ s. few-next (a .rows .now) (a .first) (a .mask) (a .free) (a .low) (l .j) (gatheredOf (a .seen) s) s (l .rails) (l .inv .1) (c .wide .ensures .0) few (l .inv .2 s),
+      λ s. few-next (a .rows .now) (a .first) (a .mask) (a .free) (a .low) (l .j) (gatheredOf (a .seen) s) s (l .rails) (l .inv .1) (c .before .row-at .ensures) (c .wide16 .ensures .0) few (l .inv .2 s),
     )
 
 returns : tie.Need-returns Inv-loop μ-loop
@@ -86,9 +86,9 @@ read-few-spec =
     Inv-loop
     μ-loop
     loop-holds
-    add-x
-    shared-slice-read-x
-    wide-requires
+    add-row-at
+    row-at-requires
+    wide16-requires
     shl-rails
     add-part
     add-part-2

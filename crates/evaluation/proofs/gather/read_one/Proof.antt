@@ -18,7 +18,7 @@ returns : tie.Need-returns
 returns c = c .before .before .read-either .ensures (c .before .before .before .before .before .args .next .now)
 
 read-rail-requires : tie.Need-read-rail-requires
-read-rail-requires c κs = let pre = c .before .before .before .pre in (pre .0, whole-small (pre .1))
+read-rail-requires c κs = let pre = c .before .before .before .pre in (pre .0, whole-small (pre .1), pre .2)
 
 returns-2 : tie.Need-returns-2
 returns-2 c = search needs

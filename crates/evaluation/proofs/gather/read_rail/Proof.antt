@@ -21,16 +21,16 @@ loop-holds : tie.Need-loop-holds Inv-loop μ-loop
 unfolding partOf
 loop-holds c = (omega arith, refl, refl)
 
-add-with-row : tie.Need-add-with-row Inv-loop μ-loop
-add-with-row c =
+add-row-at : tie.Need-add-row-at Inv-loop μ-loop
+add-row-at c =
     let a = c .before .before .before .args in
     let l = c .before .loop in
     omega (arith, part-le (a .mask) (a .free) (l .j), l .inv .1)
 
-shared-slice-read-with-row : tie.Need-shared-slice-read-with-row Inv-loop μ-loop
-shared-slice-read-with-row c =
-    let a = c .before .before .before .before .args in
-    let l = c .before .before .loop in
+row-at-requires : tie.Need-row-at-requires Inv-loop μ-loop
+row-at-requires c κs =
+    let a = c .before .before .before .args in
+    let l = c .before .loop in
     omega (arith, part-le (a .mask) (a .free) (l .j), l .inv .1)
 
 with-row-requires : tie.Need-with-row-requires Inv-loop μ-loop
@@ -60,7 +60,7 @@ loop-again c =
     let l = c .before .before .before .before .loop in (
       omega arith,
       part-next (a .mask) (a .free) (l .j) (l .inv .1),
-      row-next (a .rows .now) (a .first) (a .mask) (a .free) (a .low) (l .j) (gatheredOf (a .seen) (a .next .now)) (l .inv .1) (l .inv .2) (c .with-row .ensures),
+      row-next (a .rows .now) (a .first) (a .mask) (a .free) (a .low) (l .j) (gatheredOf (a .seen) (a .next .now)) (l .inv .1) (c .before .before .row-at .ensures) (l .inv .2) (c .with-row .ensures),
     )
 
 returns : tie.Need-returns Inv-loop μ-loop
@@ -76,8 +76,8 @@ read-rail-spec =
     Inv-loop
     μ-loop
     loop-holds
-    add-with-row
-    shared-slice-read-with-row
+    add-row-at
+    row-at-requires
     with-row-requires
     add-part
     add-part-2

@@ -22,19 +22,19 @@ abbrev μ-loop : tie.MeasureT-loop
 loop-holds : tie.Need-loop-holds Inv-loop μ-loop
 loop-holds c = (omega arith, λ s. few-none _ _ s)
 
-add-x : tie.Need-add-x Inv-loop μ-loop
-add-x c = search needs
+add-row-at : tie.Need-add-row-at Inv-loop μ-loop
+add-row-at c = search needs
 
-shared-slice-read-x : tie.Need-shared-slice-read-x Inv-loop μ-loop
-shared-slice-read-x c = search needs
+row-at-requires : tie.Need-row-at-requires Inv-loop μ-loop
+row-at-requires c κs = search needs
 
-wide-requires : tie.Need-wide-requires Inv-loop μ-loop
-wide-requires c κs = search needs
+wide16-requires : tie.Need-wide16-requires Inv-loop μ-loop
+wide16-requires c κs = search needs
 
 shl-rails : tie.Need-shl-rails Inv-loop μ-loop
 shl-rails c =
     let a = c .before .before .before .before .before .args in
-    omega (arith, and-le-r (c .wide .result) (a .low), c .before .before .before .before .before .pre .1)
+    omega (arith, and-le-r (c .wide16 .result) (a .low), c .before .before .before .before .before .pre .1)
 
 add-j : tie.Need-add-j Inv-loop μ-loop
 add-j c = search needs
@@ -46,9 +46,9 @@ loop-again : tie.Need-loop-again Inv-loop μ-loop
 loop-again c =
     let l = c .before .before .before .loop in
     let a = c .before .before .before .before .before .args in
-    let few : bitAnd (c .wide .result) (a .low) < 64 = omega (arith, and-le-r (c .wide .result) (a .low), c .before .before .before .before .before .pre .1) in (
+    let few : bitAnd (c .wide16 .result) (a .low) < 64 = omega (arith, and-le-r (c .wide16 .result) (a .low), c .before .before .before .before .before .pre .1) in (
       omega (arith, c .before .before .loop-test .taken),
-      λ s. run-next (a .rows .now) (a .first) (a .low) (l .j) (gatheredOf (a .seen) s) s (l .rails) (c .wide .ensures .0) few (l .inv .1 s),
+      λ s. run-next (a .rows .now) (a .first) (a .low) (l .j) (gatheredOf (a .seen) s) s (l .rails) (c .before .row-at .ensures) (c .wide16 .ensures .0) few (l .inv .1 s),
     )
 
 returns : tie.Need-returns Inv-loop μ-loop
@@ -64,9 +64,9 @@ read-run-spec =
     Inv-loop
     μ-loop
     loop-holds
-    add-x
-    shared-slice-read-x
-    wide-requires
+    add-row-at
+    row-at-requires
+    wide16-requires
     shl-rails
     add-j
     loop-less

@@ -72,7 +72,7 @@ read-one-requires c κs =
     let z = c .before .before .before .lowest in
     let within = bit-left (a .word) (l .b) (l .inv .1) (c .before .before .before .before .before .before .before .fits .word .fits) (z .result) (z .ensures .2) in
     let fits = pre .0 (l .b + z .result) within (sym (rest-bit (a .word) (l .b) (l .inv .1) (z .result)) ∙ z .ensures .2) in
-    (omega (arith, fits), pre .1)
+    (omega (arith, fits), pre .1, pre .4)
 
 shr-rest : tie.Need-shr-rest Inv-loop μ-loop
 shr-rest c = c .before .before .before .before .lowest .ensures .0

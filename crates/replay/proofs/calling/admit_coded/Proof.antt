@@ -12,8 +12,8 @@ pair-at-requires c κs = search needs
 add-middle : tie.Need-add-middle
 add-middle c = search needs
 
-pair-at-requires-2 : tie.Need-pair-at-requires-2
-pair-at-requires-2 c κs = search needs
+triple-at-requires : tie.Need-triple-at-requires
+triple-at-requires c κs = search needs
 
 add-end : tie.Need-add-end
 add-end c = search needs
@@ -50,8 +50,8 @@ returns c =
     let called = c .before .before .before .before .before in
     let pairs = called .before .before .before .before in
     let a = pairs .before .before .before .before .args in
-    shown-admit (a .bank) (a .scan) (now (a .rows)) (now (a .list)) (pairs .before .pair-at .result) (pairs .pair-at2 .result)
-    (pairs .before .pair-at .ensures .0) (pairs .pair-at2 .ensures .0) (c .numbered .ensures _) (called .admit .ensures)
+    shown-admit (a .bank) (a .scan) (now (a .rows)) (now (a .list)) (pairs .before .pair-at .result) (pairs .triple-at .result)
+    (pairs .before .pair-at .ensures .0) (pairs .triple-at .ensures .0) (c .numbered .ensures _) (called .admit .ensures)
 
 pub admit-coded-spec : {M : Type 1} → statement M
 admit-coded-spec =
@@ -59,7 +59,7 @@ admit-coded-spec =
     (tie.spec
     pair-at-requires
     add-middle
-    pair-at-requires-2
+    triple-at-requires
     add-end
     sub-admit
     part-admit-start

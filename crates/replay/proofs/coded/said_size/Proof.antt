@@ -22,8 +22,8 @@ returns c =
 pair-at-requires : tie.Need-pair-at-requires
 pair-at-requires c κs = search needs
 
-pair-at-requires-2 : tie.Need-pair-at-requires-2
-pair-at-requires-2 c κs = search needs
+triple-at-requires : tie.Need-triple-at-requires
+triple-at-requires c κs = search needs
 
 add-result : tie.Need-add-result
 add-result c = search needs
@@ -70,7 +70,7 @@ said-size-spec =
     byte-at-requires
     returns
     pair-at-requires
-    pair-at-requires-2
+    triple-at-requires
     add-result
     add-result-2
     returns-2

@@ -3,6 +3,7 @@
 use Rattle.stored.proofs.RecordSteps.{Begun, turn, none-begun, begun-small, few-now, turn-begun}
 use Rattle.stored.proofs.formed.RowTotals.{turn-counted}
 use Rattle.stored.specs.Formed.{tooMany, Counted}
+use Rattle.stored_spec.specs.RowBytes.{twoBytes}
 use Rattle.stored_spec.proofs.StoredCells.{cellsTo, fitAll, rowSum, begin, fit-all, rows-all}
 use mathlib.Core.Path.{_≡_, refl, sym}
 use mathlib.Core.Bool.{true≢false}
@@ -16,7 +17,7 @@ use Rattle.stored.proofs.formed.all_rows.Tie as tie
 
 abbrev Inv-loop : tie.InvT-loop
 Inv-loop records count rows₀ ins₀ outs₀ upper₀ i₀ rows ins outs upper i =
-    (i ≤ count) × Begun records i ins outs upper × Counted (fitAll (cellsTo records i)) (rowSum (cellsTo records i)) rows × (rows ≤ i * tooMany)
+    (i ≤ count) × Begun records i ins outs upper × Counted (fitAll twoBytes (cellsTo records i)) (rowSum (cellsTo records i)) rows × (rows ≤ i * tooMany)
 
 abbrev μ-loop : tie.MeasureT-loop
 μ-loop records count rows₀ ins₀ outs₀ upper₀ i₀ rows ins outs upper i = count - i
@@ -24,7 +25,7 @@ abbrev μ-loop : tie.MeasureT-loop
 loop-holds : tie.Need-loop-holds Inv-loop μ-loop
 loop-holds c =
     let R = now (c .before .args .records) in
-    let z = begin R in
+    let z = begin twoBytes R in
     (omega arith, none-begun R, rw (z .0, z .1) (λ e. refl, λ e. absurd (true≢false e)), omega arith)
 
 mul-wide : tie.Need-mul-wide Inv-loop μ-loop
@@ -133,7 +134,7 @@ returns : tie.Need-returns Inv-loop μ-loop
 returns c =
     let R = now (c .before .before .before .args .records) in
     let e : c .before .loop .i ≡ recordCount R = omega arith in
-    rw (sym (fit-all R), sym (rows-all R), sym e) (c .before .loop .inv .2)
+    rw (sym (fit-all twoBytes R), sym (rows-all R), sym e) (c .before .loop .inv .2)
 
 pub all-rows-spec : {M : Type 1} → statement M
 all-rows-spec =

@@ -4,7 +4,7 @@ use mathlib.Core.Path.{sym, _∙_, ap}
 use mathlib.Core.Bool.{true}
 use Prim.Native.Nat.{ℕ, _+_, _^_}
 use lib.Dec.{eqb, ltb}
-use lib.ListN.{getD}
+use Rattle.stored_spec.specs.RowBytes.{twoBytes, rowValue, room}
 use borrow.Author.Tests.{eq-eqb, ne-eqb}
 use denote.Ref.{now}
 use Rattle.laws.specs.Tests.{every}
@@ -19,7 +19,7 @@ power-requires c κs = omega (arith, c .before .before .pre (c .if1 .taken) .0)
 rows-below-requires : tie.Need-rows-below-requires
 rows-below-requires c κs =
     let few = c .before .before .before .pre (c .before .if1 .taken) in
-    (omega (arith, few .2, c .power .ensures .0), few .1)
+    (omega (arith, few .2, ap (λ (n : ℕ). room twoBytes (c .before .before .before .args .at + n)) (c .power .ensures .0)), few .1)
 
 returns : tie.Need-returns
 returns c =
@@ -27,8 +27,8 @@ returns c =
     let a = p .args in
     let R = now (a .rows) in
     c .rows-below .ensures
-    ∙ ap (λ (n : ℕ). every n (λ i. ltb (getD R (a .at + i) 0) (2 ^ a .outputs))) (c .before .power .ensures .0)
-    ∙ sym (cond-yes (eqb (a .cut) 1) (every (2 ^ a .inputs) (λ i. ltb (getD R (a .at + i) 0) (2 ^ a .outputs))) true
+    ∙ ap (λ (n : ℕ). every n (λ i. ltb (rowValue twoBytes R (a .at + i)) (2 ^ a .outputs))) (c .before .power .ensures .0)
+    ∙ sym (cond-yes (eqb (a .cut) 1) (every (2 ^ a .inputs) (λ i. ltb (rowValue twoBytes R (a .at + i)) (2 ^ a .outputs))) true
     (eq-eqb (a .cut) 1 (c .before .before .if1 .taken)))
 
 returns-2 : tie.Need-returns-2

@@ -1,6 +1,7 @@
 -- `cells_fit` tests each cell.
 -- Assumes nothing.
 use Rattle.stored.proofs.RecordSteps.{Begun, turn, none-begun, begun-small, few-now, turn-begun, turn-fit}
+use Rattle.stored_spec.specs.RowBytes.{twoBytes}
 use Rattle.stored_spec.proofs.StoredCells.{cellsTo, fitAll, begin, fit-all}
 use mathlib.Core.Path.{_≡_, sym, _∙_}
 use Rattle.stored_spec.specs.StoredForm.{recordCount}
@@ -13,13 +14,13 @@ use Rattle.stored.proofs.formed.cells_fit.Tie as tie
 
 abbrev Inv-loop : tie.InvT-loop
 Inv-loop records count fit₀ ins₀ outs₀ upper₀ i₀ fit ins outs upper i =
-    (i ≤ count) × Begun records i ins outs upper × (fit ≡ fitAll (cellsTo records i))
+    (i ≤ count) × Begun records i ins outs upper × (fit ≡ fitAll twoBytes (cellsTo records i))
 
 abbrev μ-loop : tie.MeasureT-loop
 μ-loop records count fit₀ ins₀ outs₀ upper₀ i₀ fit ins outs upper i = count - i
 
 loop-holds : tie.Need-loop-holds Inv-loop μ-loop
-loop-holds c = (omega arith, none-begun (now (c .before .args .records)), sym (begin (now (c .before .args .records)) .0))
+loop-holds c = (omega arith, none-begun (now (c .before .args .records)), sym (begin twoBytes (now (c .before .args .records)) .0))
 
 mul-wide : tie.Need-mul-wide Inv-loop μ-loop
 mul-wide c = search needs
@@ -122,7 +123,7 @@ returns : tie.Need-returns Inv-loop μ-loop
 returns c =
     let R = now (c .before .before .before .args .records) in
     let e : c .before .loop .i ≡ recordCount R = omega arith in
-    (rw e at (c .before .loop .inv .2)) ∙ fit-all R
+    (rw e at (c .before .loop .inv .2)) ∙ fit-all twoBytes R
 
 pub cells-fit-spec : {M : Type 1} → statement M
 cells-fit-spec =

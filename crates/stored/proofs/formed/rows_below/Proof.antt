@@ -1,22 +1,32 @@
 -- `rows_below` tests some rows by the bits that some of them has.
 -- Assumes nothing.
-use mathlib.Core.Path.{refl, _∙_, ap₂}
-use Prim.Native.Nat.{_+_}
+use mathlib.Core.Path.{_≡_, _∙_, ap₂}
+use Prim.Native.Nat.{ℕ, _+_, _*_, _%_, _^_, _≤_}
 use lib.Dec.{ltb}
+use lib.ListN.{length}
+use lib.Pow.{pow-mono}
 use denote.Ref.{now}
 use native.Mathlib.Omega.{arith}
 use borrow.Author.Needs.{needs}
-use Rattle.stored.proofs.formed.RowBytes.{bits-below, bytes-below}
+use Rattle.stored_spec.specs.RowBytes.{twoBytes, room}
+use Rattle.stored_spec.proofs.RowForms.{room-two}
+use Rattle.stored.proofs.formed.RowBytes.{bits-below, any-below}
 use Rattle.stored.proofs.formed.rows_below.Statement.{statement}
 use Rattle.stored.proofs.formed.rows_below.Tie as tie
 
 returns : tie.Need-returns
 returns c =
     let a = c .before .before .args in
-    bytes-below (now (a .rows)) (a .at) (a .outputs) (c .if1 .taken) (λ i. omega (arith, c .before .shared-slice-known .given i)) (a .count)
+    any-below (now (a .rows)) (a .at) (a .outputs) (c .if1 .taken) (λ i. omega (arith, c .before .shared-slice-known .given i)) (a .count)
 
 add-end : tie.Need-add-end
-add-end c = search needs
+add-end c = let s = c .before .before in omega (arith, s .pre .0, room-two (s .args .at + s .args .count))
+
+mul-bits-of : tie.Need-mul-bits-of
+mul-bits-of c = let s = c .before .before in omega (arith, s .pre .0, room-two (s .args .at + s .args .count))
+
+mul-bits-of-2 : tie.Need-mul-bits-of-2
+mul-bits-of-2 c = let s = c .before .before in omega (arith, s .pre .0, room-two (s .args .at + s .args .count))
 
 sub-bits-of : tie.Need-sub-bits-of
 sub-bits-of c = search needs
@@ -25,23 +35,25 @@ part-bits-of-start : tie.Need-part-bits-of-start
 part-bits-of-start c = search needs
 
 part-bits-of-end : tie.Need-part-bits-of-end
-part-bits-of-end c = search needs
+part-bits-of-end c = let s = c .before .before in omega (arith, s .pre .0, room-two (s .args .at + s .args .count))
 
 bits-of-requires : tie.Need-bits-of-requires
 bits-of-requires c κs = search needs
 
-wide-requires : tie.Need-wide-requires
-wide-requires c κs = search needs
+wide16-requires : tie.Need-wide16-requires
+wide16-requires c κs = search needs
 
-power-requires : tie.Need-power-requires
-power-requires c κs = search needs
+shl-result : tie.Need-shl-result
+shl-result c = search needs
 
 returns-2 : tie.Need-returns-2
 returns-2 c =
-    let s = c .before .before .before .before .before .before in
+    let s = c .before .before .before .before .before in
     let a = s .args in
-    ap₂ ltb (c .before .wide .ensures .0 ∙ c .before .before .bits-of .ensures) (c .power .ensures .0)
-    ∙ bits-below (now (a .rows)) (a .at) (a .outputs) (a .count) (a .at + a .count) refl (s .pre .0)
+    let few : 2 ^ a .outputs ≤ 2 ^ 16 = pow-mono (s .pre .1) in
+    let power : 1 * 2 ^ a .outputs % 2 ^ 64 ≡ 2 ^ a .outputs = omega (arith, few) in
+    ap₂ ltb (c .wide16 .ensures .0 ∙ c .before .bits-of .ensures) power
+    ∙ bits-below (now (a .rows)) (a .at) (a .outputs) (a .count) (s .pre .0)
 
 pub rows-below-spec : {M : Type 1} → statement M
 rows-below-spec =
@@ -49,10 +61,12 @@ rows-below-spec =
     (tie.spec
     returns
     add-end
+    mul-bits-of
+    mul-bits-of-2
     sub-bits-of
     part-bits-of-start
     part-bits-of-end
     bits-of-requires
-    wide-requires
-    power-requires
+    wide16-requires
+    shl-result
     returns-2)

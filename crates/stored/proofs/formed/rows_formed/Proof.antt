@@ -1,9 +1,11 @@
 -- `rows_formed` tests the rows of each cell.
 -- Assumes nothing.
 use mathlib.Core.Path.{_≡_, sym, _∙_, ap}
-use Prim.Native.Nat.{ℕ, _≤_, _<_, _-_, _*_, _^_}
+use Prim.Native.Nat.{ℕ, _≤_, _<_, _+_, _-_, _*_, _^_}
 use denote.Ref.{now}
-use Rattle.stored_spec.specs.StoredForm.{recordCount}
+use Rattle.stored_spec.specs.RowBytes.{twoBytes}
+use Rattle.stored_spec.specs.StoredForm.{recordCount, rowCount}
+use Rattle.stored_spec.proofs.RowForms.{room-rise}
 use Rattle.stored_spec.proofs.StoredCells.{cellsTo, rowSum, bytesFit, rowsBelow, begin, bytes-begin, bytes-all, cell-small, cell-inside}
 use Rattle.stored.proofs.RecordSteps.{Begun, turn, none-begun, begun-small, few-now, inputs-now, outputs-now, turn-begun, turn-rows, turn-bytes}
 use native.Mathlib.Omega.{arith}
@@ -13,7 +15,7 @@ use Rattle.stored.proofs.formed.rows_formed.Tie as tie
 
 abbrev Inv-loop : tie.InvT-loop
 Inv-loop records rows count formed₀ at₀ ins₀ outs₀ upper₀ i₀ formed at ins outs upper i =
-    (i ≤ count) × Begun records i ins outs upper × (at ≡ rowSum (cellsTo records i)) × (at ≤ i * 4096) × (formed ≡ bytesFit rows (cellsTo records i))
+    (i ≤ count) × Begun records i ins outs upper × (at ≡ rowSum (cellsTo records i)) × (at ≤ i * 4096) × (formed ≡ bytesFit twoBytes rows (cellsTo records i))
 
 abbrev μ-loop : tie.MeasureT-loop
 μ-loop records rows count formed₀ at₀ ins₀ outs₀ upper₀ i₀ formed at ins outs upper i = count - i
@@ -22,7 +24,7 @@ loop-holds : tie.Need-loop-holds Inv-loop μ-loop
 loop-holds c =
     let a = c .before .before .args in
     let R = now (a .records) in
-    (omega arith, none-begun R, sym (begin R .1), omega arith, sym (bytes-begin (now (a .rows)) R))
+    (omega arith, none-begun R, sym (begin twoBytes R .1), omega arith, sym (bytes-begin twoBytes (now (a .rows)) R))
 
 mul-wide : tie.Need-mul-wide Inv-loop μ-loop
 mul-wide c = search needs
@@ -108,10 +110,11 @@ cell-below-requires c κs =
     λ e.
     let q = sym (w2 .ensures .0) ∙ e in
     let less : i < recordCount R = c .before .before .before .before .before .before .before .before .loop-test .taken in
-    let h = cell-small R (a .pre .1) i less q in
-    let room = cell-inside R (a .pre .1) i less q in
+    let h = cell-small twoBytes R (a .pre .1) i less q in
+    let inside = cell-inside twoBytes R (a .pre .1) i less q in
     let power = ap (λ (x : ℕ). 2 ^ x) (inputs-now t) in
-    (omega (arith, inputs-now t, h .0), omega (arith, outputs-now t, h .1), omega (arith, room, power, l .inv .2, a .pre .2))
+    let rise = room-rise twoBytes (l .at + 2 ^ (l .upper + iw .result)) (rowCount R) (omega (arith, inside, power, l .inv .2)) in
+    (omega (arith, inputs-now t, h .0), omega (arith, outputs-now t, h .1), omega (arith, rise, a .pre .2))
 
 add-cell-rows : tie.Need-add-cell-rows Inv-loop μ-loop
 add-cell-rows c =
@@ -139,7 +142,7 @@ cell-rows-requires c κs =
     let t = turn (l .inv .1) (w .ensures .0) (w2 .ensures .0) (w3 .ensures) (iw .ensures) (ow .ensures) in
     λ e.
     let less : i < recordCount R = c .before .before .before .before .before .before .before .before .before .loop-test .taken in
-    let h = cell-small R (a .pre .1) i less (sym (w2 .ensures .0) ∙ e) .0 in
+    let h = cell-small twoBytes R (a .pre .1) i less (sym (w2 .ensures .0) ∙ e) .0 in
     omega (arith, inputs-now t, h)
 
 add-at : tie.Need-add-at Inv-loop μ-loop
@@ -185,7 +188,7 @@ returns c =
     let a = c .before .before .before .before .args in
     let R = now (a .records) in
     let e : c .before .loop .i ≡ recordCount R = omega arith in
-    (rw e at (c .before .loop .inv .4)) ∙ bytes-all (now (a .rows)) R
+    (rw e at (c .before .loop .inv .4)) ∙ bytes-all twoBytes (now (a .rows)) R
 
 pub rows-formed-spec : {M : Type 1} → statement M
 rows-formed-spec =

@@ -6,6 +6,7 @@ use Prim.Native.Nat.{ℕ, _≤_, _+_, _-_, _*_}
 use lib.Dec.{eqb}
 use denote.Ref.{now}
 use Rattle.sheet_spec.specs.Job.{isInput}
+use Rattle.stored_spec.specs.RowBytes.{twoBytes}
 use Rattle.stored_spec.specs.StoredForm.{recordCount}
 use Rattle.stored_spec.proofs.StoredCells.{cellsTo, rowSum, begunOuts, moreOuts, next-outs, begin, rows-all, cell-small}
 use Rattle.stored.proofs.RecordSteps.{Begun, turn, none-begun, begun-small, few-now, inputs-now, turn-begun, turn-rows}
@@ -24,7 +25,7 @@ abbrev μ-loop : tie.MeasureT-loop
 loop-holds : tie.Need-loop-holds Inv-loop μ-loop
 loop-holds c =
     let R = now (c .before .args .records) in
-    let z = begin R in
+    let z = begin twoBytes R in
     (omega arith, rw (z .3) (none-begun R), sym (z .1), omega arith)
 
 mul-wide : tie.Need-mul-wide Inv-loop μ-loop
@@ -92,7 +93,7 @@ cell-rows-requires c κs =
     let t = turn (l .inv .1) (w .ensures .0) (w2 .ensures .0) (w3 .ensures) (iw .ensures)
     (ap (λ (x : ℕ). cond (isInput x) (begunOuts R i) (begunOuts R i + 1)) (sym (w .ensures .0))) in
     λ e.
-    let h = cell-small R (a .pre .1) i (omega arith) (sym (w2 .ensures .0) ∙ e) .0 in
+    let h = cell-small twoBytes R (a .pre .1) i (omega arith) (sym (w2 .ensures .0) ∙ e) .0 in
     omega (arith, inputs-now t, h)
 
 add-rows : tie.Need-add-rows Inv-loop μ-loop

@@ -2,7 +2,7 @@
 -- Assumes nothing.
 use mathlib.Core.Path.{sym, _∙_}
 use denote.Ref.{now}
-use Rattle.stored_spec.specs.StoredForm.{recordsFormed}
+use Rattle.stored_spec.specs.StoredForm.{recordsFormedAs}
 use Rattle.stored_spec.proofs.StoredParts.{shape-has}
 use Rattle.stored.specs.Formed.{rowsWanted}
 use native.Mathlib.Omega.{arith}
@@ -19,11 +19,11 @@ contents-rows-requires c κs =
     (h .1, omega (arith, h .0, h .2))
 
 returns : tie.Need-returns
-unfolding rowsWanted recordsFormed
+unfolding rowsWanted recordsFormedAs
 returns c = rw (sym (c .before .before .shaped .ensures) ∙ c .before .if1 .taken) (c .contents-rows .ensures)
 
 returns-2 : tie.Need-returns-2
-unfolding rowsWanted recordsFormed
+unfolding rowsWanted recordsFormedAs
 returns-2 c = rw (sym (c .before .shaped .ensures) ∙ c .if1 .left)
 
 pub rows-wanted-spec : {M : Type 1} → statement M

@@ -8,6 +8,7 @@ use lib.ListN.{length}
 use denote.Ref.{now}
 use Rattle.laws.proofs.Cases.{cond-both}
 use Rattle.sheet_spec.specs.Job.{isInput}
+use Rattle.stored_spec.specs.RowBytes.{twoBytes}
 use Rattle.stored_spec.specs.StoredForm.{recordCount}
 use Rattle.stored.specs.Places.{CellPlace}
 use Rattle.stored_spec.proofs.StoredCells.{cellsTo, rowSum, begunOuts, moreOuts, next-outs, begin, cell-small}
@@ -34,7 +35,7 @@ loop-holds : tie.Need-loop-holds Inv-loop μ-loop
 loop-holds c =
     let a = c .before .before in
     let R = now (a .args .records) in
-    let z = begin R in
+    let z = begin twoBytes R in
     let y = no-cells R (recordCount R) (a .args .k) in (
       omega arith,
       rw (z .3) (none-begun R),
@@ -119,7 +120,7 @@ cell-rows-requires c κs =
     (ap (λ (x : ℕ). cond (isInput x) (begunOuts R i) (begunOuts R i + 1)) (sym (w .ensures .0))) in
     λ e.
     let less : i < recordCount R = c .before .before .before .before .before .before .before .loop-test .taken in
-    let h = cell-small R (a .pre .1) i less (sym (w2 .ensures .0) ∙ e) .0 in
+    let h = cell-small twoBytes R (a .pre .1) i less (sym (w2 .ensures .0) ∙ e) .0 in
     omega (arith, inputs-now t, h)
 
 add-end : tie.Need-add-end Inv-loop μ-loop

@@ -2,6 +2,7 @@
 -- Assumes nothing.
 use mathlib.Core.Path.{sym, _∙_}
 use denote.Ref.{now}
+use Rattle.stored_spec.specs.RowBytes.{twoBytes}
 use Rattle.stored_spec.proofs.StoredParts.{records-have}
 use Rattle.stored.proofs.CellPlaces.{place-none}
 use native.Mathlib.Omega.{arith}
@@ -14,7 +15,7 @@ records-formed-requires c κs = search needs
 
 find-place-requires : tie.Need-find-place-requires
 find-place-requires c κs =
-    let h = records-have (now (c .before .before .before .args .records)) (sym (c .before .records-formed .ensures) ∙ c .if1 .taken) in
+    let h = records-have twoBytes (now (c .before .before .before .args .records)) (sym (c .before .records-formed .ensures) ∙ c .if1 .taken) in
     (omega (arith, h .whole, h .few), h .cells)
 
 returns : tie.Need-returns

@@ -3,6 +3,7 @@
 use mathlib.Core.Path.{sym, _∙_, ap}
 use denote.Ref.{now}
 use Rattle.stored.specs.RecordArrays.{StoredRecords, structureOf, readAs}
+use Rattle.stored_spec.specs.RowBytes.{twoBytes}
 use Rattle.stored_spec.specs.ReadWrite.{cascadeOf}
 use Rattle.stored_spec.proofs.StoredParts.{records-have}
 use Rattle.laws.specs.Lists.{puts}
@@ -17,7 +18,7 @@ formed-requires c κs = search needs
 take-apart-requires : tie.Need-take-apart-requires
 take-apart-requires c κs =
     let a = c .before .before .before .before .args in
-    records-have (now (a .records)) (formed-records (now (a .records)) (now (a .rows)) (sym (c .before .formed .ensures) ∙ c .if1 .taken)) .few
+    records-have twoBytes (now (a .records)) (formed-records (now (a .records)) (now (a .rows)) (sym (c .before .formed .ensures) ∙ c .if1 .taken)) .few
 
 returns : tie.Need-returns
 unfolding cascadeOf

@@ -36,8 +36,8 @@ add-first c =
     let few = few-outs (now (a .records)) (a .k) (rows-told (now (a .records)) (a .k) there) in
     omega (arith, c .wide .ensures .1, c .before .count-outputs .ensures, few)
 
-wide-requires-2 : tie.Need-wide-requires-2
-wide-requires-2 c κs = search needs
+wide16-requires : tie.Need-wide16-requires
+wide16-requires c κs = search needs
 
 store-outputs-requires : tie.Need-store-outputs-requires
 store-outputs-requires c κs =
@@ -51,15 +51,15 @@ same-length : tie.Need-same-length
 same-length c =
     let a = c .before .before .before .before .before .before .before .before .before .before .before .before .args in
     ap (λ (s : List ℕ). length s) (c .before .before .store-outputs .ensures)
-    ∙ length-after (cellAt (now (a .records)) (a .k)) (now (a .outputs)) (c .before .before .before .before .wide2 .result)
+    ∙ length-after (cellAt (now (a .records)) (a .k)) (now (a .outputs)) (c .before .before .before .before .wide16 .result)
 
 returns : tie.Need-returns
 returns c =
     let a = c .before .before .before .before .before .before .before .before .before .before .before .before .args in
     let R = now (a .records) in
     let there = sym (c .before .before .before .before .before .before .before .before .before .has-cell .ensures) ∙ c .before .before .before .before .before .before .before .before .if1 .taken in
-    c .before .before .store-outputs .ensures ∙ some-outputs R (a .k) there (c .before .before .before .before .wide2 .result) (now (a .outputs))
-    ∙ ap (λ (x : ℕ). outputsRead R (a .k) x (now (a .outputs))) (c .before .before .before .before .wide2 .ensures .0)
+    c .before .before .store-outputs .ensures ∙ some-outputs R (a .k) there (c .before .before .before .before .wide16 .result) (now (a .outputs))
+    ∙ ap (λ (x : ℕ). outputsRead R (a .k) x (now (a .outputs))) (c .before .before .before .before .wide16 .ensures .0)
 
 returns-2 : tie.Need-returns-2
 returns-2 c = let a = c .before .before .before .before .args in no-outputs (now (a .records)) (a .k) (sym (c .before .has-cell .ensures) ∙ c .if1 .left) (a .row) (now (a .outputs))
@@ -73,7 +73,7 @@ put-outputs-spec =
     count-outputs-requires
     wide-requires
     add-first
-    wide-requires-2
+    wide16-requires
     store-outputs-requires
     same-length
     returns

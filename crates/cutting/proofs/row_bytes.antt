@@ -1,0 +1,2 @@
+-- Laws of `src/row_bytes.rt`.
+pub mod BytesPut

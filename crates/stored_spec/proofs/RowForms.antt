@@ -1,0 +1,102 @@
+-- Rows and their bytes: z bytes a row, and back.
+-- Assumes nothing.
+use mathlib.Core.Path.{_≡_, refl, _∙_, ap}
+use mathlib.Core.List.{List}
+use Prim.Native.Nat.{ℕ, zero, suc, _+_, _*_, _/_, _%_, _^_, _<_, _≤_}
+use native.Mathlib.Nat.{mod-lt, mod-eq-of-lt, mul-le-mul-right, add-mul}
+use native.Mathlib.Omega.{arith}
+use lib.ListN.{length, getD, take, drop}
+use lib.Seq.{getD-take, getD-drop}
+use lib.Pow.{pow-pos, pow-add, mod-pow-add}
+use lib.Arith.{digits-lt}
+use Rattle.laws.specs.Tests.{sum}
+use Rattle.laws.specs.Lists.{rect, written}
+use Rattle.laws.proofs.Counts.{sum-ext}
+use Rattle.laws.proofs.Filled.{getD-before, getD-written}
+use Rattle.laws.proofs.Lists.{row-end, length-rect, getD-rect}
+use Rattle.stored_spec.specs.RowBytes.{rowValue, room, rowBytes}
+
+-- bytes put together, lowest first
+abbrev joinedBytes : ℕ → (ℕ → ℕ) → ℕ
+joinedBytes z d = sum z (λ b. d b * 2 ^ (8 * b))
+
+more-bits : (z : ℕ) → 8 * suc z ≡ 8 + 8 * z
+more-bits z = omega arith
+
+joined-lt : (z : ℕ) (d : ℕ → ℕ) → ((b : ℕ) → b < z → d b < 256) → joinedBytes z d < 2 ^ (8 * z)
+joined-lt zero d h = omega arith
+joined-lt (suc z) d h =
+    let before = joined-lt z d (λ b l. h b (omega arith)) in
+    let whole : d z * 2 ^ (8 * z) + joinedBytes z d < 2 ^ 8 * 2 ^ (8 * z) = digits-lt (h z (omega arith)) before in
+    rw (ap (λ (k : ℕ). 2 ^ k) (more-bits z) ∙ pow-add 2 8 (8 * z)) (omega arith)
+
+-- a number's bytes put together again: its lowest bits
+bytes-joined : (z x : ℕ) → joinedBytes z (λ b. x / 2 ^ (8 * b) % 256) ≡ x % 2 ^ (8 * z)
+bytes-joined zero x = let h = mod-lt x (pow-pos 0) in omega arith
+bytes-joined (suc z) x =
+    let e = ap (λ (k : ℕ). x % 2 ^ k) (more-bits z) ∙ mod-pow-add x 8 (8 * z) in
+    omega (arith, bytes-joined z x, e)
+
+module _ (z : ℕ) where
+  pub length-rowBytes : (rows : List ℕ) → length (rowBytes z rows) ≡ room z (length rows)
+  unfolding rowBytes room
+  length-rowBytes rows = length-rect z (λ i b. getD rows i 0 / 2 ^ (8 * b) % 256) (length rows)
+
+  -- a row is below 256^z
+  pub row-lt : (bytes : List ℕ) → ((i : ℕ) → getD bytes i 0 < 256) → (i : ℕ) → rowValue z bytes i < 2 ^ (8 * z)
+  unfolding rowValue
+  row-lt bytes h i = joined-lt z (λ b. getD bytes (i * z + b) 0) (λ b l. h (i * z + b))
+
+  -- a row of the bytes of rows
+  pub row-kept : (rows : List ℕ) (i : ℕ) → i < length rows → getD rows i 0 < 2 ^ (8 * z) → rowValue z (rowBytes z rows) i ≡ getD rows i 0
+  unfolding rowValue rowBytes
+  row-kept rows i l h =
+      let F : ℕ → ℕ → ℕ = λ i b. getD rows i 0 / 2 ^ (8 * b) % 256 in
+      sum-ext (λ b. getD (rect (length rows) z F) (i * z + b) 0 * 2 ^ (8 * b)) (λ b. F i b * 2 ^ (8 * b)) z
+      (λ b m. ap (λ (x : ℕ). x * 2 ^ (8 * b)) (getD-rect z F 0 (length rows) i b l m))
+      ∙ bytes-joined z (getD rows i 0) ∙ mod-eq-of-lt h
+
+-- more rows take no less room
+pub room-rise : (z m n : ℕ) → m ≤ n → room z m ≤ room z n
+unfolding room
+room-rise z m n h = mul-le-mul-right z h
+
+-- with two bytes a row
+pub room-two : (n : ℕ) → room 2 n ≡ n * 2
+unfolding room
+room-two n = refl
+
+pub row-two : (bytes : List ℕ) (i : ℕ) → rowValue 2 bytes i ≡ getD bytes (i * 2) 0 + getD bytes (i * 2 + 1) 0 * 256
+unfolding rowValue
+row-two bytes i = let e : i * 2 + 0 ≡ i * 2 = omega arith in omega (arith, ap (λ (k : ℕ). getD bytes k 0) e)
+
+pub room-add : (z m n : ℕ) → room z (m + n) ≡ room z m + room z n
+unfolding room
+room-add z m n = add-mul m n z
+
+-- row bytes of which a part is written over, from row a on
+module _ (z : ℕ) (l : List ℕ) (a : ℕ) (vs : List ℕ) (fits : room z a + length vs ≤ length l) where
+  pub row-before : (p : ℕ) → p < a → rowValue z (written l (room z a) vs) p ≡ rowValue z l p
+  unfolding rowValue room
+  row-before p h =
+      sum-ext (λ b. getD (written l (a * z) vs) (p * z + b) 0 * 2 ^ (8 * b)) (λ b. getD l (p * z + b) 0 * 2 ^ (8 * b)) z
+      (λ b m. ap (λ (x : ℕ). x * 2 ^ (8 * b)) (getD-before l (a * z) vs fits 0 (p * z + b) (omega (arith, row-end p a z h))))
+
+  pub row-written : (i : ℕ) → room z (i + 1) ≤ length vs → rowValue z (written l (room z a) vs) (a + i) ≡ rowValue z vs i
+  unfolding rowValue room
+  row-written i h =
+      sum-ext (λ b. getD (written l (a * z) vs) ((a + i) * z + b) 0 * 2 ^ (8 * b)) (λ b. getD vs (i * z + b) 0 * 2 ^ (8 * b)) z
+      (λ b m.
+      let e : (a + i) * z + b ≡ a * z + (i * z + b) = omega (arith, add-mul a i z) in
+      ap (λ (x : ℕ). x * 2 ^ (8 * b))
+      (ap (λ (k : ℕ). getD (written l (a * z) vs) k 0) e ∙ getD-written l (a * z) vs fits 0 (i * z + b) (omega (arith, add-mul i 1 z))))
+
+-- the rows of a part of row bytes, from row a on
+pub row-part : (z : ℕ) (l : List ℕ) (a n i : ℕ) → i < n → rowValue z (take (room z n) (drop (room z a) l)) i ≡ rowValue z l (a + i)
+unfolding rowValue room
+row-part z l a n i h =
+    sum-ext (λ b. getD (take (n * z) (drop (a * z) l)) (i * z + b) 0 * 2 ^ (8 * b)) (λ b. getD l ((a + i) * z + b) 0 * 2 ^ (8 * b)) z
+    (λ b m.
+    let e : a * z + (i * z + b) ≡ (a + i) * z + b = omega (arith, add-mul a i z) in
+    ap (λ (x : ℕ). x * 2 ^ (8 * b))
+    (getD-take (n * z) (drop (a * z) l) (i * z + b) 0 (omega (arith, row-end i n z h)) ∙ getD-drop (a * z) l (i * z + b) 0 ∙ ap (λ (k : ℕ). getD l k 0) e))
