@@ -19,7 +19,7 @@
 extern "C" {
 #endif
 
-/* A job: n inputs (1 to 12), m outputs (1 to 8), cell limits of k inputs (2 to 12) and l outputs (1 to 8), and an
+/* A job: n inputs (1 to 12), m outputs (1 to 8), cell limits of k inputs (2 to 12) and l outputs (1 to 16), and an
  * order of n + m bytes, top first: input i is i, output i is 128 + i. The sheet is records of 8 bytes: 0 and 1 the mask
  * of tested inputs, 2 and 3 their values, low byte first; 4 the outputs forced to 0, 5 those forced to 1; 6 is 1 for a stop
  * record and 0 for an ordinary one; 7 is 0. Where a stop record and an ordinary one both name an output for a word, the
@@ -29,7 +29,8 @@ extern "C" {
 /* Memory that is enough for every job. */
 #define CASCADE_NODE_WORDS 30720 /* 10,240 nodes: height, child for 0, child for 1 */
 #define CASCADE_RECORD_BYTES 80  /* 20 records of 4 bytes */
-#define CASCADE_ROW_BYTES 32768
+#define CASCADE_ROW_SIZE 2       /* bytes a row: the row memory is 16 bits wide */
+#define CASCADE_ROW_BYTES 65536  /* 32,768 rows, as many as a bank holds; no job has over 12,288 */
 #define CASCADE_WIDTHS 20
 #define CASCADE_TABLE_BYTES 32768
 
@@ -40,7 +41,7 @@ extern "C" {
  *   6  an output stands above an input on which it depends
  *   7  over 512 columns at some height    8  no cut list meets k and l
  *   9  nodes shorter than 3 words a node  10 records shorter than 4 x (n + m)
- *   11 rows shorter than the rows
+ *   11 rows shorter than 2 bytes a row
  * The lowest wins; then the other fields are 0. An output depends on an input where two words that differ in that input
  * alone give it different values among 0, 1 and free; that a record tests the input is no dependence. */
 typedef struct {
@@ -55,7 +56,9 @@ typedef struct {
  *   nodes    holds 3 words for each node: height, child for 0, child for 1; child 0 is constant 0, child 1 constant 1, and
  *            the first node is number 2;
  *   records  holds n + m records of 4 bytes: variable, 1 if a cut lies directly below, rails at that cut, 0;
- *   rows     holds the rows of all cells, top cell first;
+ *   rows     holds the rows of all cells, top cell first, CASCADE_ROW_SIZE bytes each, low byte first: the field rows of
+ *            the answer is their number, so CASCADE_ROW_SIZE times as many bytes are written. In a memory of odd length
+ *            the last byte is no room for a row;
  *   widths   holds the widths at the heights 0 to n + m - 1, then zeros.
  * nodes, records and rows keep what lies past the part written. Stack: CASCADE_COMPILE_STACK bytes are enough. */
 #define CASCADE_COMPILE_STACK 524288
@@ -119,6 +122,9 @@ cascade_reached cascade_descent(const uint16_t words[CASCADE_NODE_WORDS],
                                 uint8_t top, uint8_t bottom,
                                 uint16_t node, uint16_t inputs, uint8_t count);
 
+/* The value of row i of row bytes. */
+#define CASCADE_ROW(rows, i) ((uint16_t)((rows)[2 * (i)] | (rows)[2 * (i) + 1] << 8))
+
 /* Which outputs of a stored cascade are certain where only some inputs are known, as when a sensor's cable is cut. records and
  * rows are those of one cascade, as cascade_compile writes them or as a fitter patched them, with no byte more. Bit i of known
  * says that input i is known, and bit i of word is then its value; bits of unknown inputs in word, bits above 11 and inputs that
@@ -158,8 +164,9 @@ uint8_t cascade_known(const uint8_t *records, size_t records_length,
  * both are as they were. */
 uint8_t cascade_bank_new(size_t s, uint8_t bank[CASCADE_BANK_BYTES], uint8_t scan[CASCADE_SCAN_BYTES]);
 
-/* Admits a block: copies its records into the bank and appends its rows to the row memory. All set outputs are cleared
- * and no scan runs. Answers 0, or
+/* Admits a block: copies its records into the bank and appends its rows to the row memory, two bytes a row in both. All set
+ * outputs are cleared and no scan runs. A block with one byte a row, as it was before rows had two, is not well formed: 12.
+ * Answers 0, or
  *   12 bank, scan state or block not well formed    13 8 blocks are held
  *   14 the cells of all blocks would exceed S       11 row memory short, or over 32,768 rows in all
  * and then nothing changes. The first that holds in this order is answered. */
@@ -176,7 +183,7 @@ uint8_t cascade_latch(const uint8_t bank[CASCADE_BANK_BYTES], uint8_t scan[CASCA
 /* What a step answers. */
 #define CASCADE_IDLE 0    /* no scan, or all cells are read */
 #define CASCADE_WENT 1    /* a cell was read: block and cell, counted from 0 */
-#define CASCADE_REFUSED 2 /* refusal is 12, or 11 where the row memory is shorter than all rows held */
+#define CASCADE_REFUSED 2 /* refusal is 12, or 11 where the row memory is shorter than 2 bytes for each row held */
 typedef struct {
     uint8_t kind;
     uint8_t block;

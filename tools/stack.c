@@ -41,7 +41,7 @@ static void *compile(void *unused)
 
 static void *admit(void *unused)
 {
-    refusal = cascade_admit(bank, scan, records, 4 * variables(), rows, made_rows, held_rows, sizeof held_rows);
+    refusal = cascade_admit(bank, scan, records, 4 * variables(), rows, CASCADE_ROW_SIZE * made_rows, held_rows, sizeof held_rows);
     return unused;
 }
 
@@ -61,7 +61,7 @@ static void *step(void *unused)
 static void *evaluate(void *unused)
 {
     static uint8_t outputs[CASCADE_OUTPUTS];
-    refusal = cascade_known(records, 4 * variables(), rows, made_rows, 0, 0, outputs);
+    refusal = cascade_known(records, 4 * variables(), rows, CASCADE_ROW_SIZE * made_rows, 0, 0, outputs);
     return unused;
 }
 

@@ -27,7 +27,8 @@ int main(int argc, char **argv)
     }
     uint16_t known = (uint16_t)strtoul(argv[2], NULL, 16);
     uint16_t word = (uint16_t)strtoul(argv[3], NULL, 16);
-    uint8_t refusal = cascade_known(records, 4 * (inputs + outputs), rows, made.rows, known, word, certain);
+    uint8_t refusal = cascade_known(records, 4 * (inputs + outputs), rows, CASCADE_ROW_SIZE * (size_t)made.rows, known, word,
+                                    certain);
     if (refusal != 0) {
         printf("refused %u\n", (unsigned)refusal);
         return 1;

@@ -31,8 +31,8 @@ int main(void)
         if (record[1] == 1) {
             size_t bottom = t - 1 - i, end = at + ((size_t)1 << cell_inputs);
             printf("cell %zu %zu", top, bottom);
-            while (at < end)
-                printf(" %u", (unsigned)rows[at++]);
+            for (; at < end; at++)
+                printf(" %u", (unsigned)CASCADE_ROW(rows, at));
             printf("\n");
             top = bottom;
             cell_inputs = record[2];

@@ -27,7 +27,8 @@ static int admit(const char *name)
         printf("%s: refused %u\n", name, (unsigned)made.refusal);
         return 0;
     }
-    uint8_t refusal = cascade_admit(bank, scan, records, 4 * (inputs + outputs), rows, made.rows, held_rows, sizeof held_rows);
+    uint8_t refusal = cascade_admit(bank, scan, records, 4 * (inputs + outputs), rows, CASCADE_ROW_SIZE * (size_t)made.rows,
+                                    held_rows, sizeof held_rows);
     if (refusal != 0) {
         printf("%s: not admitted, %u\n", name, (unsigned)refusal);
         return 0;

@@ -182,6 +182,8 @@ class Split:
                 if use and use.group(7):
                     needed[use.group(4, 5, 6)].update(n.split(" as ")[0].strip() for n in use.group(7).split(","))
             text = "\n\n".join(self.files[old][2][i].text.strip("\n") for old, found in sources for i in found)
+            if not sources:
+                continue
             header = self.headers[new] or "\n".join(self.files[sources[0][0]][0])
             made[new] = (header, merged(uses), rename(text, renamed))
         for new, (header, uses, text) in made.items():
