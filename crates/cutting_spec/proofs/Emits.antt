@@ -62,11 +62,11 @@ module _ (j : Job) (once : notEachOnce (j .n) (j .m) (j .order) ≡ false) (few 
   abbrev R : List ℕ
   R = stored j ws l
 
-  abbrev bytes : List ℕ
-  bytes = cascadeRows j f ls ws l
+  abbrev values : List ℕ
+  values = cascadeRows j f ls ws l
 
   abbrev rowAt : ℕ → ℕ
-  rowAt p = getD bytes p 0
+  rowAt p = getD values p 0
 
   abbrev x : ℕ
   x = numberOf (inputList j) w
@@ -106,11 +106,11 @@ module _ (j : Job) (once : notEachOnce (j .n) (j .m) (j .order) ≡ false) (few 
     top : a ≤ t j
     top = cuts-most cuts k
 
-    abbrev byte : ℕ
-    byte = rowOf j f ls ws a b (x / 2 ^ ins j b)
+    abbrev row : ℕ
+    row = rowOf j f ls ws a b (x / 2 ^ ins j b)
 
     -- the row that the cell reads
-    reads : getD bytes (rowPlace R k (s .rail) w) 0 ≡ byte
+    reads : getD values (rowPlace R k (s .rail) w) 0 ≡ row
     unfolding rowPlace storedBetween rows cellBetween cellInputs
     reads =
         let le : b ≤ a = omega (arith, fall) in
@@ -124,11 +124,11 @@ module _ (j : Job) (once : notEachOnce (j .n) (j .m) (j .order) ≡ false) (few 
         ∙ address-between j once few out w r a b le top in
         let i< : i < rows (cellBetween j ws a b) =
         rw (pow-add 2 (railsAt j ws a) c) (digits-lt r< (mod-lt (x / 2 ^ ins j b) (pow-pos c))) in
-        ap (λ (i : ℕ). getD bytes (rowsBefore R k + i) 0) place ∙ rows-at j f ls ws l cuts k i within i<
+        ap (λ (i : ℕ). getD values (rowsBefore R k + i) 0) place ∙ rows-at j f ls ws l cuts k i within i<
         ∙ row-read j once few out f a b x top le small
 
     ran : ranOneBy rowAt R w k s
-        ≡ record { rail = byte % 2 ^ railsAt j ws b; outputs = setOutputs (s .outputs) (outsFrom j a (a - b)) (byte / 2 ^ railsAt j ws b) }
+        ≡ record { rail = row % 2 ^ railsAt j ws b; outputs = setOutputs (s .outputs) (outsFrom j a (a - b)) (row / 2 ^ railsAt j ws b) }
     unfolding ranOneBy railAfter outputsAfter storedBetween
     ran =
         ap₂ (λ (c : StoredCell) (y : ℕ). record { rail = railAfter c y; outputs = outputsAfter c (s .outputs) y }) (cell-at j ws l cuts k within) reads
@@ -136,7 +136,7 @@ module _ (j : Job) (once : notEachOnce (j .n) (j .m) (j .order) ≡ false) (few 
     next-is : Emitted j f x b (ranOneBy rowAt R w k s)
     next-is =
         let le : b ≤ a = omega (arith, fall) in
-        let y = byte / 2 ^ railsAt j ws b in
+        let y = row / 2 ^ railsAt j ws b in
         rw ran
         (record {
           rail = row-rail j once few out f a b x top le small;

@@ -18,9 +18,7 @@ use Rattle.cutting_spec.specs.Choice.{refuse8}
 use Rattle.stored_spec.specs.RowBytes.{twoBytes, rowValue}
 use Rattle.stored_spec.specs.StoredForm.{cellCount, rowCount, wellFormed}
 use Rattle.stored_spec.specs.Run.{run, runBy}
-use Rattle.stored_spec.proofs.Promises.{formed-records}
-use Rattle.stored_spec.proofs.Promises.{row-kept}
-use Rattle.stored_spec.proofs.Promises.{same-rows}
+use Rattle.stored_spec.proofs.Promises.{formed-records, row-kept, same-rows}
 use Rattle.cutting_spec.specs.Compile.{widthsOf, made}
 use Rattle.cutting_spec.proofs.StoredCuts.{cell-count, rows-length, cuts-some}
 use Rattle.cutting_spec.proofs.Emits.{Emitted, compiled-emits, compiled-all}

@@ -162,12 +162,18 @@ module _ (j : Job) (once : notEachOnce (j .n) (j .m) (j .order) ≡ false) (few 
       within-list : (k : ℕ) → k < cellCount R → suc k < length l
       within-list k h = omega (arith, cell-count j ws l cuts)
 
+      fits-largest : (k : ℕ) → suc k < length l → fits 12 16 (cellBetween j ws (getD l k 0) (getD l (suc k) 0)) ≡ true
+      fits-largest k p =
+          fits-more (j .K) (j .L) 12 16 (cellBetween j ws (getD l k 0) (getD l (suc k) 0)) k≤ l≤ (fit-at j ws (j .K) (j .L) l k all-fit p)
+
+      few-values : (k : ℕ) → suc k < length l → 2 ^ (cellBetween j ws (getD l k 0) (getD l (suc k) 0) .outputs) ≤ 2 ^ 16
+      few-values k p = pow-mono (few-outputs (cellBetween j ws (getD l k 0) (getD l (suc k) 0)) (fits-largest k p))
+
       cell-good : (k : ℕ) → k < cellCount R → cellFormed R k ≡ true
       unfolding cellFormedAs
       cell-good k h =
           let p = within-list k h in
-          ap (fits 12 16) (cell-size j ws l cuts k p)
-          ∙ fits-more (j .K) (j .L) 12 16 (cellBetween j ws (getD l k 0) (getD l (suc k) 0)) k≤ l≤ (fit-at j ws (j .K) (j .L) l k all-fit p)
+          ap (fits 12 16) (cell-size j ws l cuts k p) ∙ fits-largest k p
 
       whole : length R ≡ t j * 4
       unfolding stored
@@ -235,8 +241,7 @@ module _ (j : Job) (once : notEachOnce (j .n) (j .m) (j .order) ≡ false) (few 
           let q′ : i < rows (cellBetween j ws a b) = rw size at q in
           lt-ltb (rowValue twoBytes bytes (rowsBefore R k + i)) (2 ^ (sizeOf (cellAt R k) .outputs))
           (let small = row-good a b i (omega arith) (cuts-most cuts k) in
-          let fits16 = few-outputs (cellBetween j ws a b) (fits-more (j .K) (j .L) 12 16 (cellBetween j ws a b) k≤ l≤ (fit-at j ws (j .K) (j .L) l k all-fit p)) in
-          let most : 2 ^ (cellBetween j ws a b .outputs) ≤ 2 ^ 16 = pow-mono fits16 in
+          let most = few-values k p in
           let at = rows-at j f ls ws l cuts k i p q′ in
           rw (row-kept twoBytes values (rowsBefore R k + i) (row-inside k i p q) (omega (arith, at)) ∙ at, size) small))
 
@@ -254,8 +259,7 @@ module _ (j : Job) (once : notEachOnce (j .n) (j .m) (j .order) ≡ false) (few 
           let fall = cuts-fall cuts k q in
           let i< : r .place < rows (cellBetween j ws a b) = rw (cell-size j ws l cuts k q) at (r .below) in
           let small = row-good a b (r .place) (omega arith) (cuts-most cuts k) in
-          let fits16 = few-outputs (cellBetween j ws a b) (fits-more (j .K) (j .L) 12 16 (cellBetween j ws a b) k≤ l≤ (fit-at j ws (j .K) (j .L) l k all-fit q)) in
-          let most : 2 ^ (cellBetween j ws a b .outputs) ≤ 2 ^ 16 = pow-mono fits16 in
+          let most = few-values k q in
           let at = ap (λ (x : ℕ). getD values x 0) (r .at) ∙ rows-at j f ls ws l cuts k (r .place) q i< in
           omega (arith, at)
 

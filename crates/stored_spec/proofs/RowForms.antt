@@ -1,20 +1,25 @@
 -- Rows and their bytes: z bytes a row, and back.
 -- Assumes nothing.
-use mathlib.Core.Path.{_≡_, refl, _∙_, ap}
+use mathlib.Core.Path.{_≡_, refl, _∙_, ap, ap₂}
+use mathlib.Core.Bool.{_&&_}
 use mathlib.Core.List.{List}
 use Prim.Native.Nat.{ℕ, zero, suc, _+_, _*_, _/_, _%_, _^_, _<_, _≤_}
 use native.Mathlib.Nat.{mod-lt, mod-eq-of-lt, mul-le-mul-right, add-mul}
 use native.Mathlib.Omega.{arith}
+use lib.Dec.{eqb, ltb}
 use lib.ListN.{length, getD, take, drop}
 use lib.Seq.{getD-take, getD-drop}
 use lib.Pow.{pow-pos, pow-add, mod-pow-add}
 use lib.Arith.{digits-lt}
-use Rattle.laws.specs.Tests.{sum}
+use Rattle.laws.specs.Tests.{every, sum}
 use Rattle.laws.specs.Lists.{rect, written}
 use Rattle.laws.proofs.Counts.{sum-ext}
 use Rattle.laws.proofs.Filled.{getD-before, getD-written}
 use Rattle.laws.proofs.Lists.{row-end, length-rect, getD-rect}
-use Rattle.stored_spec.specs.RowBytes.{rowValue, room, rowBytes}
+use Rattle.laws.proofs.Tests.{every-ext}
+use Rattle.stored_spec.specs.Cells.{Cell, rows}
+use Rattle.stored_spec.specs.RowBytes.{oneByte, rowValue, room, rowBytes}
+use Rattle.stored_spec.specs.StoredForm.{cellCount, cellAt, sizeOf, rowsBefore, rowCount, recordsFormedAs, rowsFormedAs, wellFormedAs}
 
 -- bytes put together, lowest first
 abbrev joinedBytes : ℕ → (ℕ → ℕ) → ℕ
@@ -70,9 +75,28 @@ pub row-two : (bytes : List ℕ) (i : ℕ) → rowValue 2 bytes i ≡ getD bytes
 unfolding rowValue
 row-two bytes i = let e : i * 2 + 0 ≡ i * 2 = omega arith in omega (arith, ap (λ (k : ℕ). getD bytes k 0) e)
 
-pub room-add : (z m n : ℕ) → room z (m + n) ≡ room z m + room z n
+-- with one byte a row: document 01's stored form
+room-one : (n : ℕ) → room oneByte n ≡ n
 unfolding room
-room-add z m n = add-mul m n z
+room-one n = omega arith
+
+row-one : (bytes : List ℕ) (i : ℕ) → rowValue oneByte bytes i ≡ getD bytes i 0
+unfolding rowValue
+row-one bytes i = let e : i * 1 + 0 ≡ i = omega arith in omega (arith, ap (λ (k : ℕ). getD bytes k 0) e)
+
+pub formed-one : (R bytes : List ℕ) → wellFormedAs oneByte R bytes
+    ≡ (recordsFormedAs oneByte R && eqb (length bytes) (rowCount R)
+    && every (cellCount R) (λ k. every (rows (sizeOf (cellAt R k))) (λ i. ltb (getD bytes (rowsBefore R k + i) 0) (2 ^ sizeOf (cellAt R k) .outputs))))
+unfolding wellFormedAs rowsFormedAs
+formed-one R bytes =
+    let size : ℕ → Cell = λ k. sizeOf (cellAt R k) in
+    ap₂ _&&_ (ap (λ (n : ℕ). recordsFormedAs oneByte R && eqb (length bytes) n) (room-one (rowCount R)))
+    (every-ext (λ k. every (rows (size k)) (λ i. ltb (rowValue oneByte bytes (rowsBefore R k + i)) (2 ^ size k .outputs)))
+    (λ k. every (rows (size k)) (λ i. ltb (getD bytes (rowsBefore R k + i) 0) (2 ^ size k .outputs))) (cellCount R)
+    (λ k l.
+    every-ext (λ i. ltb (rowValue oneByte bytes (rowsBefore R k + i)) (2 ^ size k .outputs))
+    (λ i. ltb (getD bytes (rowsBefore R k + i) 0) (2 ^ size k .outputs)) (rows (size k))
+    (λ i h. ap (λ (x : ℕ). ltb x (2 ^ size k .outputs)) (row-one bytes (rowsBefore R k + i)))))
 
 -- row bytes of which a part is written over, from row a on
 module _ (z : ℕ) (l : List ℕ) (a : ℕ) (vs : List ℕ) (fits : room z a + length vs ≤ length l) where

@@ -6,13 +6,11 @@ use mathlib.Core.List.{List}
 use Prim.Native.Nat.{ℕ, _-_, _*_, _≤_, _<_}
 use lib.Dec.{eqb, leb}
 use lib.ListN.{length}
-use native.Mathlib.Omega.{arith}
-use borrow.Author.Tests.{eqb-true, leb-true, le-leb}
+use borrow.Author.Tests.{eqb-true, leb-true}
 use Rattle.laws.specs.Tests.{every, within}
-use Rattle.laws.proofs.Cases.{and-split, and-join}
-use Rattle.laws.proofs.Tests.{every-of, every-at}
-use Rattle.stored_spec.specs.Cells.{fits}
-use Rattle.stored_spec.specs.StoredForm.{recordCount, cutByte, railByte, recordFormed, cellCount, cellAt, sizeOf, cellFormedAs, rowCount, recordsFormedAs}
+use Rattle.laws.proofs.Cases.{and-split}
+use Rattle.laws.proofs.Tests.{every-at}
+use Rattle.stored_spec.specs.StoredForm.{recordCount, cutByte, railByte, recordFormed, cellCount, cellFormedAs, rowCount, recordsFormedAs}
 
 -- whole records, 1 to 20 of them
 pub shape-has : (R : List ℕ) → (eqb (length R) (recordCount R * 4) && within 1 20 (recordCount R)) ≡ true
@@ -52,16 +50,6 @@ records-have z R e =
       cells = f .1;
       rows = leb-true (rowCount R) 32768 (g .1);
     }
-
--- cells that fit in rows of z bytes fit in longer rows
-pub fit-more : (z y : ℕ) (R : List ℕ) → z ≤ y → every (cellCount R) (cellFormedAs z R) ≡ true → every (cellCount R) (cellFormedAs y R) ≡ true
-unfolding cellFormedAs fits
-fit-more z y R l e =
-    every-of (cellFormedAs y R) (cellCount R)
-    (λ k h.
-    let c = sizeOf (cellAt R k) in
-    let (i, o) = and-split (leb (c .inputs) 12) (leb (c .outputs) (8 * z)) (every-at (cellFormedAs z R) (cellCount R) e k h) in
-    and-join i (le-leb (c .outputs) (8 * y) (omega (arith, leb-true (c .outputs) (8 * z) o))))
 
 -- five tests, of which the fourth is made first
 module _ (a b c d e : Bool) where
