@@ -34,9 +34,7 @@ case-table =
       L-book = refl;
       S = refl;
       S-ordinary = refl;
-      W-answer = refl;
-      W-rows = refl;
-      W-listing = refl;
+      W = refl;
       W-16 = refl;
       W-17 = refl;
     }

