@@ -152,7 +152,8 @@ uint8_t cascade_known(const uint8_t *records, size_t records_length,
  *          3-4  its rail word         5-20  the latched words, two bytes each, low byte first
  *          21   the outputs, 8 bytes a place: 0 or 1 where set, else CASCADE_NOT_SET
  *
- * Stack: CASCADE_BANK_STACK bytes are enough for each of the four. */
+ * Nothing in them says how many bytes a row has: a bank filled when rows had one byte must be made anew, for a step would
+ * read wrong rows. Stack: CASCADE_BANK_STACK bytes are enough for each of the four. */
 #define CASCADE_PLACES 8
 #define CASCADE_BANK_BYTES 651
 #define CASCADE_SCAN_BYTES 85
