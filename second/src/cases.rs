@@ -181,3 +181,10 @@ pub fn fifteen_outputs() -> Job {
         sheet,
     }
 }
+
+/// A cell of sixteen outputs as stored records: x1, y1 to y4 and 12 rails; then a cell with y5.
+#[rustfmt::skip]
+pub const SIXTEEN_OUTPUTS: [u8; 24] = [
+    0, 0, 0, 0,  128, 0, 0, 0,  129, 0, 0, 0,  130, 0, 0, 0,  131, 1, 12, 0,
+    132, 1, 0, 0,
+];

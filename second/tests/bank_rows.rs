@@ -5,6 +5,7 @@ use second::bank::{
     admit, admit_with, latch, new_bank, step, step_with, Bank, Mistake, Scan, Step,
 };
 use second::book::{Book, Call, Outputs, Said};
+use second::cases::SIXTEEN_OUTPUTS;
 use second::fast;
 use second::generate::{
     block, calls, cascade, compiled, job, made, over_limit, row_bytes, Family, Over, Rows, Shape,
@@ -64,15 +65,7 @@ fn row_memory_of_any_length() {
 /// x1, y1 to y4 and 12 rails; then y5, which is 1 for one rail word alone. A row's bits above its cell's outputs don't count.
 #[test]
 fn a_step_reads_low_byte_first() {
-    let list = [
-        (0, 0, 0),
-        (128, 0, 0),
-        (129, 0, 0),
-        (130, 0, 0),
-        (131, 1, 12),
-        (132, 1, 0),
-    ];
-    let records: Vec<u8> = list.iter().flat_map(|&(v, c, r)| [v, c, r, 0]).collect();
+    let records = SIXTEEN_OUTPUTS.to_vec();
     let mut values = vec![0; 2 + 4_096];
     (values[1], values[2 + 0x5C3]) = (0xA5C3, 1);
     let block = (records, row_bytes(&values));

@@ -134,17 +134,9 @@ fn twelve_rails() {
 /// x1 goes to y1 to y4 and to twelve rails, as 0000 and 0FF or 1111 and F00; y5 is whether the rail word is one of these two.
 #[test]
 fn sixteen_outputs() {
-    let list = [
-        (0, 0, 0),
-        (128, 0, 0),
-        (129, 0, 0),
-        (130, 0, 0),
-        (131, 1, 12),
-        (132, 1, 0),
-    ];
     let lower = (0..4_096u16).map(|rail| u16::from([0x0FF, 0xF00].contains(&rail)));
     let rows: Vec<u16> = [0x00FF, 0xFF00].into_iter().chain(lower).collect();
-    let cascade = (records(&list), row_bytes(&rows));
+    let cascade = (cases::SIXTEEN_OUTPUTS.to_vec(), row_bytes(&rows));
     exact(&cascade, 0, 0, &[2, 2, 2, 2, 1]);
     exact(&cascade, 1, 0, &[0, 0, 0, 0, 1]);
     exact(&cascade, 1, 1, &[1, 1, 1, 1, 1]);

@@ -2,6 +2,7 @@
 
 use super::{bytes, records};
 use second::book;
+use second::cases::SIXTEEN_OUTPUTS;
 use second::generate::{cascade, over_limit, Over, Rows, Shape};
 use second::known::{fillings, fused, plain, sets, two_rails};
 use second::stored::{cells, emit, rail_words, read, well_formed, write};
@@ -51,15 +52,7 @@ fn values_are_below_2_to_the_outputs() {
 #[test]
 fn a_row_is_read_low_byte_first() {
     // x1, y1 to y4 and 12 rails; then y5, which is 1 for one rail word alone.
-    let list = [
-        (0, 0, 0),
-        (128, 0, 0),
-        (129, 0, 0),
-        (130, 0, 0),
-        (131, 1, 12),
-        (132, 1, 0),
-    ];
-    let records = records(&list);
+    let records = SIXTEEN_OUTPUTS.to_vec();
     let mut rows = vec![0; 2 * (2 + 4_096)];
     // Row 1 is A5C3: y1 to y4 are 1010, the rail word is 5C3.
     (rows[2], rows[3]) = (0xC3, 0xA5);
