@@ -1,5 +1,5 @@
-//! The seeded generator: jobs by family, sheets in other arrangements, lent memories, blocks, cascades made by hand and lists of
-//! bank calls.
+//! The seeded generator: jobs by family, sheets in other arrangements, lent memories, blocks, cascades made by hand, such with one-byte
+//! rows, and lists of bank calls.
 
 mod arranged;
 mod blocks;
@@ -8,6 +8,7 @@ mod cascades;
 mod damaged;
 mod dense;
 mod dependence;
+mod one_byte;
 mod pending;
 mod plain;
 mod rails;
@@ -22,6 +23,7 @@ pub use blocks::{block, compiled, compiled_with_totals, damage, row_bytes, Store
 pub use calls::calls;
 pub use cascades::{cascade, known_but, made, over_limit, Over, Rows, Shape};
 pub use damaged::Fault;
+pub use one_byte::{at_most, damage_one_byte, low_bytes, one_byte, Room};
 pub use random::Random;
 
 use crate::job::{Job, Lent, Node};

@@ -8,6 +8,8 @@ pub mod generate;
 pub mod job;
 pub mod known;
 pub mod list;
+pub mod move_text;
+pub mod moves;
 pub mod panel;
 pub mod plain;
 pub mod replay;

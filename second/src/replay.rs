@@ -31,7 +31,8 @@ enum Line {
     Step,
 }
 
-fn number(text: &[u8], most: u32) -> Option<u32> {
+/// One to five digits in base 10.
+pub(crate) fn number(text: &[u8], most: u32) -> Option<u32> {
     if !(1..=5).contains(&text.len()) || !text.iter().all(u8::is_ascii_digit) {
         return None;
     }
@@ -47,7 +48,8 @@ fn digits(text: &[u8]) -> Option<u32> {
     })
 }
 
-fn bytes(text: &[u8]) -> Option<Vec<u8>> {
+/// Two digits in base 16 for each byte, or `-` for none.
+pub(crate) fn bytes(text: &[u8]) -> Option<Vec<u8>> {
     if text == b"-" {
         return Some(Vec::new());
     }

@@ -3,8 +3,11 @@
 
 #[path = "stored/rows.rs"]
 mod rows;
+#[path = "stored/shape.rs"]
+mod shape;
 
 use second::stored::{cells, emit, rail_words, read, well_formed, write, Cascade, Record};
+use shape::plain_shape;
 
 const A_RECORDS: [u8; 24] = [
     0x00, 0, 0, 0, 0x01, 0, 0, 0, 0x02, 1, 2, 0, 0x80, 0, 0, 0, 0x03, 0, 0, 0, 0x81, 1, 0, 0,
@@ -246,36 +249,6 @@ fn writing_refuses_12_then_10_then_11() {
     }
 }
 
-/// The rules for records, said once more cell by cell: the inputs and outputs of each cell, rails counted in.
-fn plain_shape(bytes: &[u8]) -> Option<Vec<(u32, u32)>> {
-    let list: Vec<&[u8]> = bytes.chunks(4).collect();
-    let variables: Vec<u8> = list.iter().map(|r| r[0]).collect();
-    let fits = list.len() >= 1 && list.len() <= 20 && list.iter().all(|r| r.len() == 4);
-    let bytes_fit = fits
-        && list
-            .iter()
-            .all(|r| r[3] == 0 && r[1] < 2 && (r[1] == 1 || r[2] == 0));
-    let once = variables
-        .iter()
-        .enumerate()
-        .all(|(i, v)| !variables[..i].contains(v));
-    let known = variables.iter().all(|&v| v < 12 || (v >= 128 && v < 136));
-    if !(bytes_fit && once && known && list[list.len() - 1][1..3] == [1, 0]) {
-        return None;
-    }
-    let mut shape = vec![];
-    let mut upper = 0;
-    for cell in list.split_inclusive(|r| r[1] == 1) {
-        let outputs = cell.iter().filter(|r| r[0] >= 128).count() as u32;
-        let lower = u32::from(cell[cell.len() - 1][2]);
-        shape.push((upper + cell.len() as u32 - outputs, outputs + lower));
-        upper = lower;
-    }
-    let fits = shape.iter().all(|&(i, o)| i <= 12 && o <= 16);
-    let rows = || shape.iter().map(|&(i, _)| 1 << i).sum::<u32>();
-    (fits && rows() <= 32_768).then_some(shape)
-}
-
 fn random_records(dice: &mut Dice) -> Vec<u8> {
     let mut variables: Vec<u8> = (0..12).chain(128..136).collect();
     for i in (1..20).rev() {
@@ -315,7 +288,7 @@ fn random_records_agree_with_the_plain_rules() {
             };
             cells.iter().map(count).collect::<Vec<_>>()
         });
-        assert_eq!(shape, plain_shape(&bytes), "{bytes:?}");
+        assert_eq!(shape, plain_shape(&bytes, 16), "{bytes:?}");
         *if shape.is_some() { &mut good } else { &mut bad } += 1;
     }
     assert!(good > 10_000 && bad > 10_000, "{good} {bad}");
@@ -327,7 +300,7 @@ fn random_cascades_emit_what_the_row_bits_say() {
     let mut walked = 0;
     while walked < 2_000 {
         let bytes = random_records(&mut dice);
-        let Some(shape) = plain_shape(&bytes) else {
+        let Some(shape) = plain_shape(&bytes, 16) else {
             continue;
         };
         let mut values = vec![];

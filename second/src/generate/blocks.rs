@@ -74,7 +74,7 @@ pub fn block(seed: u64, index: u64) -> StoredBlock {
 }
 
 /// The first byte of a random row of a well-formed block, and the outputs of the row's cell.
-fn some_row(random: &mut Random, (records, rows): &StoredBlock) -> (usize, usize) {
+pub(super) fn some_row(random: &mut Random, (records, rows): &StoredBlock) -> (usize, usize) {
     let row = random.below(rows.len() / 2);
     let (mut first, mut inputs, mut outputs) = (0, 0, 0);
     for record in records.chunks_exact(4) {
@@ -92,8 +92,8 @@ fn some_row(random: &mut Random, (records, rows): &StoredBlock) -> (usize, usize
     (2 * row, 16)
 }
 
-/// One way to spoil a block; None where this block can't be spoilt so.
-fn spoilt(random: &mut Random, way: usize, block: &StoredBlock) -> Option<StoredBlock> {
+/// One way to spoil a block; None where this block can't be spoilt so. Of ways 0 to 18 all but 14 to 16 change records alone.
+pub(super) fn spoilt(random: &mut Random, way: usize, block: &StoredBlock) -> Option<StoredBlock> {
     let (mut records, mut rows) = block.clone();
     let count = records.len() / 4;
     let at = random.below(count) * 4;

@@ -74,16 +74,21 @@ impl Rows {
 pub fn cascade(shape: Shape, rows: Rows, seed: u64, index: u64) -> StoredBlock {
     let stream = 500 + 10 * shape as u64 + rows as u64;
     let random = &mut Random::new(stream, seed, index);
-    let records = match shape {
+    let records = records_of(random, shape, seed, index);
+    let rows = filled(random, &records, rows);
+    (records, row_bytes(&rows))
+}
+
+/// Well-formed records of this shape.
+pub(super) fn records_of(random: &mut Random, shape: Shape, seed: u64, index: u64) -> Vec<u8> {
+    match shape {
         Shape::Any => block(seed, index).0,
         Shape::ManyCells => many_cells(random),
         Shape::OneCell => one_cell(random),
         Shape::EightRails => eight_rails(random),
         Shape::SixteenOutputs => sixteen_outputs(random),
         Shape::Largest => largest(random),
-    };
-    let rows = filled(random, &records, rows);
-    (records, row_bytes(&rows))
+    }
 }
 
 /// The limit that a cascade is over.
@@ -148,10 +153,15 @@ pub fn over_limit(over: Over, seed: u64, index: u64) -> StoredBlock {
 }
 
 /// Shapes and kinds of rows come round with the index.
-pub fn made(seed: u64, index: u64) -> StoredBlock {
+pub(super) fn kinds(index: u64) -> (Shape, Rows) {
     let (shapes, kinds) = (Shape::ALL.len() as u64, Rows::ALL.len() as u64);
     let shape = Shape::ALL[(index % shapes) as usize];
-    let rows = Rows::ALL[(index / shapes % kinds) as usize];
+    (shape, Rows::ALL[(index / shapes % kinds) as usize])
+}
+
+/// The cascade of the shape and the kind of rows that come with the index.
+pub fn made(seed: u64, index: u64) -> StoredBlock {
+    let (shape, rows) = kinds(index);
     cascade(shape, rows, seed, index)
 }
 
@@ -277,7 +287,8 @@ fn most(cell: &Cell) -> u16 {
     ((1u32 << cell.output_count()) - 1) as u16
 }
 
-fn filled(random: &mut Random, records: &[u8], rows: Rows) -> Vec<u16> {
+/// Rows of this kind for well-formed records.
+pub(super) fn filled(random: &mut Random, records: &[u8], rows: Rows) -> Vec<u16> {
     let mut filled = Vec::new();
     let mut reached = vec![0];
     for cell in cells(records).expect("well formed") {

@@ -45,6 +45,16 @@ impl Random {
         (self.next() >> 56) as u8
     }
 
+    /// So many bytes, eight of each number drawn.
+    pub fn bytes(&mut self, count: usize) -> Vec<u8> {
+        let mut bytes = Vec::with_capacity(count + 8);
+        while bytes.len() < count {
+            bytes.extend(self.next().to_le_bytes());
+        }
+        bytes.truncate(count);
+        bytes
+    }
+
     pub fn word(&mut self) -> u16 {
         (self.next() >> 48) as u16
     }

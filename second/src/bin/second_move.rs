@@ -1,0 +1,24 @@
+//! Prints the list of bank calls on standard input with the rows of its blocks moved, as `second::move_text` says. Argument: `widen`
+//! or `narrow`.
+
+use second::move_text::printed;
+use second::moves::Way;
+use std::io::{self, Read, Write};
+use std::process::ExitCode;
+
+fn main() -> ExitCode {
+    let mut arguments = std::env::args_os().skip(1);
+    let name = arguments.next().unwrap_or_default();
+    let (Some(way), None) = (Way::from_name(&name.to_string_lossy()), arguments.next()) else {
+        eprintln!("second_move widen|narrow");
+        return ExitCode::from(2);
+    };
+    let mut text = Vec::new();
+    if io::stdin().lock().read_to_end(&mut text).is_err() {
+        return ExitCode::FAILURE;
+    }
+    match io::stdout().lock().write_all(&printed(&text, way)) {
+        Ok(()) => ExitCode::SUCCESS,
+        Err(_) => ExitCode::FAILURE,
+    }
+}
