@@ -166,14 +166,36 @@ mod exported {
             word: u16,
             outputs: *mut [u8; 8],
         ) -> u8;
+        pub fn cascade_widen(
+            records: *const u8,
+            records_length: usize,
+            rows: *const u8,
+            rows_length: usize,
+            to_records: *mut u8,
+            to_records_length: usize,
+            to_rows: *mut u8,
+            to_rows_length: usize,
+        ) -> u8;
+        pub fn cascade_narrow(
+            records: *const u8,
+            records_length: usize,
+            rows: *const u8,
+            rows_length: usize,
+            to_records: *mut u8,
+            to_records_length: usize,
+            to_rows: *mut u8,
+            to_rows_length: usize,
+        ) -> u8;
     }
 }
 
 mod known;
+mod moves;
 mod state;
 mod walks;
 
 pub use known::known;
+pub use moves::{narrow, widen};
 pub use state::{bank_bytes, scan_bytes, State};
 pub use walks::{compatible_columns, descent, same_columns, walk};
 
