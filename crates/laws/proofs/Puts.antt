@@ -3,11 +3,11 @@
 use mathlib.Core.Path.{_≡_, refl, sym, _∙_, ap, ap₂}
 use mathlib.Core.List.{List, [], _∷_, _++_}
 use Prim.Native.Nat.{ℕ, zero, suc, _+_, _*_, _<_, _≤_}
-use native.Mathlib.Nat.{not-suc-le-zero, add-zero, zero-add}
+use native.Mathlib.Nat.{not-suc-le-zero, add-zero, zero-add, add-suc}
 use native.Mathlib.Numerals.{add-one}
 use native.Mathlib.Omega.{arith}
 use lib.ListN.{length, getD, set, length-set, replicate, length-replicate, getD-replicate}
-use lib.Seq.{getD-set-same, getD-set-other, set-getD, sets, ext-getD}
+use lib.Seq.{set-out, getD-set-same, getD-set-other, set-getD, sets, ext-getD}
 use Rattle.laws.specs.Lists.{tab, rect, filled, written, puts, putsAt}
 use Rattle.laws.proofs.Cases.{last-or-below, by-less}
 use Rattle.laws.proofs.Lists.{length-tab, length-rect, tab-ext, tab-of}
@@ -27,6 +27,13 @@ module _ {A : Type 0} (f : ℕ → A) where
   unfolding puts putsAt
   length-puts zero l = refl
   length-puts (suc n) l = length-set (puts n f l) n (f n) ∙ length-puts n l
+
+  -- stores past the end
+  pub puts-past : (n c : ℕ) (l : List A) → length l ≤ n → puts (n + c) f l ≡ puts n f l
+  unfolding puts
+  puts-past n zero l h = ap (λ (k : ℕ). puts k f l) (add-zero n)
+  puts-past n (suc c) l h =
+      ap (λ (k : ℕ). puts k f l) (add-suc n c) ∙ set-out (puts (n + c) f l) (n + c) (f (n + c)) (omega (arith, length-puts (n + c) l)) ∙ puts-past n c l h
 
   -- what is stored, and what is not stored to
   pub getD-puts : (n : ℕ) (l : List A) (d : A) (i : ℕ) → i < n → i < length l → getD (puts n f l) i d ≡ f i

@@ -4,3 +4,4 @@ pub mod CellReads
 pub mod Promises
 mod RecordSteps
 pub mod RowBits
+mod RowTotals

@@ -8,8 +8,8 @@ use native.Mathlib.Omega.{arith}
 use lib.Dec.{eqb}
 use Rattle.laws.proofs.Cases.{cond-both}
 use Rattle.sheet_spec.specs.Job.{isInput}
-use Rattle.sheet_spec.specs.Limits.{largestInputs, largestOutputs}
-use Rattle.stored_spec.specs.RowBytes.{twoBytes}
+use Rattle.sheet_spec.specs.Limits.{largestInputs}
+use Rattle.stored_spec.specs.RowBytes.{twoBytes, outputsIn}
 use Rattle.stored_spec.specs.Cells.{cell, fits}
 use Rattle.stored_spec.specs.StoredForm.{variable, cutByte, railByte, reading}
 use Rattle.stored_spec.proofs.StoredCells.{begunIns, begunOuts, moreIns, moreOuts, endInputs, endOutputs, cellsTo, begin, begun-few, next-ins, next-outs, next-upper, fitAll, rowSum, bytesFit, rowsBelow, fit-next, rows-next, bytes-next}
@@ -74,22 +74,22 @@ module _ {R : List ℕ} {i ins outs upper v cut rail more over : ℕ} (t : Turn 
             ∙ ap (λ (x : ℕ). cond (eqb (cutByte R i) 1) (railByte R i) x) (t .begun .upper-is) ∙ sym (next-upper R i);
       }
 
-  pub turn-fit : {f g : Bool} → f ≡ fitAll twoBytes (cellsTo R i) → g ≡ cond (eqb cut 1) (fits largestInputs largestOutputs (cell (upper + more) (over + rail))) true
-      → (f && g) ≡ fitAll twoBytes (cellsTo R (i + 1))
-  turn-fit p q =
+  pub turn-fit : (z : ℕ) {f g : Bool} → f ≡ fitAll z (cellsTo R i) → g ≡ cond (eqb cut 1) (fits largestInputs (outputsIn z) (cell (upper + more) (over + rail))) true
+      → (f && g) ≡ fitAll z (cellsTo R (i + 1))
+  turn-fit z p q =
       ap₂ _&&_ p
-      (q ∙ ap (λ (x : ℕ). cond (eqb x 1) (fits largestInputs largestOutputs (cell (upper + more) (over + rail))) true) (t .cut-is)
-      ∙ ap₂ (λ (x y : ℕ). cond (eqb (cutByte R i) 1) (fits largestInputs largestOutputs (cell x y)) true) inputs-now outputs-now)
-      ∙ sym (fit-next R i twoBytes)
+      (q ∙ ap (λ (x : ℕ). cond (eqb x 1) (fits largestInputs (outputsIn z) (cell (upper + more) (over + rail))) true) (t .cut-is)
+      ∙ ap₂ (λ (x y : ℕ). cond (eqb (cutByte R i) 1) (fits largestInputs (outputsIn z) (cell x y)) true) inputs-now outputs-now)
+      ∙ sym (fit-next R i z)
 
   pub turn-rows : {n m : ℕ} → n ≡ rowSum (cellsTo R i) → m ≡ cond (eqb cut 1) (2 ^ (upper + more)) 0 → n + m ≡ rowSum (cellsTo R (i + 1))
   turn-rows p q =
       ap₂ (λ (x y : ℕ). x + y) p (q ∙ ap₂ (λ (x y : ℕ). cond (eqb x 1) (2 ^ y) 0) (t .cut-is) inputs-now) ∙ sym (rows-next R i)
 
-  pub turn-bytes : (bytes : List ℕ) {at : ℕ} {f g : Bool} → f ≡ bytesFit twoBytes bytes (cellsTo R i) → at ≡ rowSum (cellsTo R i)
-      → g ≡ cond (eqb cut 1) (rowsBelow twoBytes bytes at (2 ^ (upper + more)) (2 ^ (over + rail))) true → (f && g) ≡ bytesFit twoBytes bytes (cellsTo R (i + 1))
-  turn-bytes bytes p e q =
+  pub turn-bytes : (z : ℕ) (bytes : List ℕ) {at : ℕ} {f g : Bool} → f ≡ bytesFit z bytes (cellsTo R i) → at ≡ rowSum (cellsTo R i)
+      → g ≡ cond (eqb cut 1) (rowsBelow z bytes at (2 ^ (upper + more)) (2 ^ (over + rail))) true → (f && g) ≡ bytesFit z bytes (cellsTo R (i + 1))
+  turn-bytes z bytes p e q =
       ap₂ _&&_ p
-      (q ∙ ap₂ (λ (x y : ℕ). cond (eqb x 1) (rowsBelow twoBytes bytes y (2 ^ (upper + more)) (2 ^ (over + rail))) true) (t .cut-is) e
-      ∙ ap₂ (λ (x y : ℕ). cond (eqb (cutByte R i) 1) (rowsBelow twoBytes bytes (rowSum (cellsTo R i)) (2 ^ x) (2 ^ y)) true) inputs-now outputs-now)
-      ∙ sym (bytes-next R i twoBytes bytes)
+      (q ∙ ap₂ (λ (x y : ℕ). cond (eqb x 1) (rowsBelow z bytes y (2 ^ (upper + more)) (2 ^ (over + rail))) true) (t .cut-is) e
+      ∙ ap₂ (λ (x y : ℕ). cond (eqb (cutByte R i) 1) (rowsBelow z bytes (rowSum (cellsTo R i)) (2 ^ x) (2 ^ y)) true) inputs-now outputs-now)
+      ∙ sym (bytes-next R i z bytes)

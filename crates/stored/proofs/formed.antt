@@ -1,4 +1,2 @@
 -- Laws of `src/formed.rt`.
 mod RecordBits
-mod RowBytes
-mod RowTotals

@@ -8,7 +8,7 @@ use lib.Dec.{eqb, leb}
 use lib.ListN.{length}
 use Rattle.laws.specs.Bits.{marks}
 use Rattle.laws.specs.Tests.{within}
-use Rattle.stored_spec.specs.RowBytes.{twoBytes, rowValue}
+use Rattle.stored_spec.specs.RowBytes.{rowValue}
 use Rattle.stored_spec.specs.StoredForm.{rowCount, recordsFormed}
 
 -- an input or an output; the bytes after a variable
@@ -22,9 +22,9 @@ cutFormed cut rail last = leb cut 1 && (eqb cut 1 || eqb rail 0) && eqb last 0
 abbrev pub placeOf : ℕ → ℕ
 placeOf v = (v + v / 8) % 64
 
--- the bits that some row has
-abbrev pub bitsOf : List ℕ → ℕ
-bitsOf bytes = marks 0 (rowValue twoBytes bytes) (length bytes / 2)
+-- the bits that some row of z bytes has
+abbrev pub bitsOf : ℕ → List ℕ → ℕ
+bitsOf z bytes = marks 0 (rowValue z bytes) (length bytes / z)
 
 -- one more than the most rows
 abbrev pub tooMany : ℕ

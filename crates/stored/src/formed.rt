@@ -1,4 +1,4 @@
-// The test of a stored cascade: its records, its cells and its rows.
+// The test of a stored cascade: its records and its cells.
 ghost use mathlib.Core.Path.{_≡_};
 ghost use mathlib.Core.Bool.{true, cond, _&&_};
 ghost use Prim.Native.Nat.{_≤_, _<_, _+_, _-_, _*_, _/_, _^_};
@@ -8,14 +8,12 @@ ghost use Rattle.laws.specs.Tests.{every, within};
 ghost use Rattle.sheet_spec.specs.Job.{isInput};
 ghost use Rattle.sheet_spec.specs.Limits.{largestInputs, largestOutputs};
 ghost use Rattle.stored_spec.specs.Cells.{cell, fits};
-ghost use Rattle.stored_spec.specs.RowBytes.{twoBytes, rowValue, room};
+ghost use Rattle.stored_spec.specs.RowBytes.{twoBytes, outputsIn};
 ghost use Rattle.stored_spec.specs.StoredForm.{recordCount, cutByte, railByte, recordFormed, cellCount, cellFormed};
-ghost use Rattle.stored_spec.specs.StoredForm.{recordsFormed, rowsFormedAs, rowCount, wellFormed};
-ghost use Rattle.stored.specs.Formed.{isNamed, cutFormed, placeOf, bitsOf, tooMany, Counted, rowsWanted};
+ghost use Rattle.stored_spec.specs.StoredForm.{cellFormedAs, recordsFormed, rowCount};
+ghost use Rattle.stored.specs.Formed.{isNamed, cutFormed, placeOf, tooMany, Counted, rowsWanted};
 use crate::casts::power;
-use numbers::pair;
 use numbers::wide;
-use numbers::wide16;
 use sheet_spec::MOST_VARIABLES;
 use stored_spec::Cell;
 use stored_spec::MOST_ROWS;
@@ -111,7 +109,7 @@ pub fn inputs_with(n: usize, v: usize) -> usize
 }
 
 // n outputs, with the variable v.
-fn outputs_with(n: usize, v: usize) -> usize
+pub fn outputs_with(n: usize, v: usize) -> usize
     requires { ⌜ n ≤ 4096 ⌝ }
     ensures { λ r. ⌜ r ≡ cond (isInput v) n (n + 1) ⌝ }
 {
@@ -131,21 +129,22 @@ pub fn after(cut: usize, a: usize, b: usize) -> usize
     b
 }
 
-// A cell that a cut ends is not larger than the largest.
-fn cell_fits(cut: usize, inputs: usize, outputs: usize) -> bool
-    ensures { λ r. ⌜ r ≡ cond (eqb cut 1) (fits largestInputs largestOutputs (cell inputs outputs)) true ⌝ }
+// A cell that a cut ends is not larger than the largest with size bytes a row.
+fn cell_fits(size: usize, cut: usize, inputs: usize, outputs: usize) -> bool
+    requires { ⌜ size ≤ twoBytes ⌝ }
+    ensures { λ r. ⌜ r ≡ cond (eqb cut 1) (fits largestInputs (outputsIn size) (cell inputs outputs)) true ⌝ }
 {
     if cut == 1 {
         let c = Cell { inputs, outputs };
-        return c.fits(Cell::MAX_INPUTS, Cell::MAX_OUTPUTS);
+        return c.fits(Cell::MAX_INPUTS, 8 * size);
     }
     true
 }
 
-// No cell is larger than the largest.
-pub fn cells_fit(records: &[u8]) -> bool
-    requires { do ⌜ (← ⟦records.len()⟧) ≤ 80 ⌝ }
-    ensures { λ r. ⌜ r ≡ every (cellCount (now (records .entry))) (cellFormed (now (records .entry))) ⌝ }
+// No cell is larger than the largest with size bytes a row.
+pub fn cells_fit(records: &[u8], size: usize) -> bool
+    requires { do ⌜ ((← ⟦records.len()⟧) ≤ 80) × (size ≤ twoBytes) ⌝ }
+    ensures { λ r. ⌜ r ≡ every (cellCount (now (records .entry))) (cellFormedAs size (now (records .entry))) ⌝ }
 {
     let count = records.len() / 4;
     let mut fit = true;
@@ -159,7 +158,7 @@ pub fn cells_fit(records: &[u8]) -> bool
         let rail = wide(records[i * 4 + 2]);
         let more = inputs_with(ins, v);
         let over = outputs_with(outs, v);
-        fit = fit & cell_fits(cut, upper + more, over + rail);
+        fit = fit & cell_fits(size, cut, upper + more, over + rail);
         ins = after(cut, 0, more);
         outs = after(cut, 0, over);
         upper = after(cut, rail, upper);
@@ -262,7 +261,7 @@ fn contents_rows(records: &[u8]) -> usize
 }
 
 // The rows of well formed records; of any other too many.
-fn rows_wanted(records: &[u8]) -> usize
+pub fn rows_wanted(records: &[u8]) -> usize
     ensures { λ r. ⌜ r ≡ rowsWanted (now (records .entry)) ⌝ }
 {
     if shaped(records) {
@@ -276,94 +275,4 @@ pub fn records_formed(records: &[u8]) -> bool
     ensures { λ r. ⌜ r ≡ recordsFormed (now (records .entry)) ⌝ }
 {
     rows_wanted(records) <= MOST_ROWS
-}
-
-// Row i, low byte first.
-fn row_at(rows: &[u8], i: usize) -> u16
-    requires { do ⌜ i * 2 + 1 < (← ⟦rows.len()⟧) ⌝ }
-    ensures { λ r. ⌜ r ≡ rowValue twoBytes (now (rows .entry)) i ⌝ }
-{
-    pair(rows[i * 2], rows[i * 2 + 1])
-}
-
-// The bits that some row has. The loop has no exit, so that it is made for many rows at once.
-fn bits_of(rows: &[u8]) -> u16
-    ensures { λ r. ⌜ r ≡ bitsOf (now (rows .entry)) ⌝ }
-{
-    let count = rows.len() / 2;
-    let mut seen = 0u16;
-    let mut i = 0;
-    while i < count {
-        seen = seen | row_at(rows, i);
-        i += 1;
-    }
-    seen
-}
-
-// Each of the count rows from place at on is below 2^outputs. Any row is below 2^16.
-fn rows_below(rows: &[u8], at: usize, count: usize, outputs: usize) -> bool
-    requires { ⌜ (room twoBytes (at + count) ≤ length (now rows)) × (outputs ≤ largestOutputs) ⌝ }
-    ensures { λ r. ⌜ r ≡ every count (λ i. ltb (rowValue twoBytes (now (rows .entry)) (at + i)) (2 ^ outputs)) ⌝ }
-{
-    if outputs == Cell::MAX_OUTPUTS {
-        return true;
-    }
-    let end = at + count;
-    let seen = wide16(bits_of(&rows[at * 2..end * 2]));
-    seen < 1 << outputs
-}
-
-// The rows of a cell that a cut ends, from place at on, are below 2^outputs.
-fn cell_below(rows: &[u8], cut: usize, at: usize, inputs: usize, outputs: usize) -> bool
-    requires { ⌜ (cut ≡ 1 → (inputs ≤ largestInputs) × (outputs ≤ largestOutputs) × (room twoBytes (at + 2 ^ inputs) ≤ length (now rows))) ⌝ }
-    ensures { λ r. ⌜ r ≡ cond (eqb cut 1) (every (2 ^ inputs) (λ i. ltb (rowValue twoBytes (now (rows .entry)) (at + i)) (2 ^ outputs))) true ⌝ }
-{
-    if cut == 1 {
-        let count = power(inputs);
-        return rows_below(rows, at, count, outputs);
-    }
-    true
-}
-
-// The rows of each cell are below 2^outputs.
-fn rows_formed(records: &[u8], rows: &[u8]) -> bool
-    requires { ⌜ (length (now records) ≤ 80) × (every (cellCount (now records)) (cellFormed (now records)) ≡ true)
-        × (length (now rows) ≡ room twoBytes (rowCount (now records))) ⌝ }
-    ensures { λ r. ⌜ r ≡ every (cellCount (now (records .entry))) (rowsFormedAs twoBytes (now (records .entry)) (now (rows .entry))) ⌝ }
-{
-    let count = records.len() / 4;
-    let mut formed = true;
-    let mut at = 0;
-    let mut ins = 0;
-    let mut outs = 0;
-    let mut upper = 0;
-    let mut i = 0;
-    while i < count {
-        let v = wide(records[i * 4]);
-        let cut = wide(records[i * 4 + 1]);
-        let rail = wide(records[i * 4 + 2]);
-        let more = inputs_with(ins, v);
-        let over = outputs_with(outs, v);
-        formed = formed & cell_below(rows, cut, at, upper + more, over + rail);
-        at = at + cell_rows(cut, upper + more);
-        ins = after(cut, 0, more);
-        outs = after(cut, 0, over);
-        upper = after(cut, rail, upper);
-        i += 1;
-    }
-    formed
-}
-
-// The records are well formed, there are two row bytes for each row, and each row is below 2^outputs.
-pub fn formed(records: &[u8], rows: &[u8]) -> bool
-    ensures { λ r. ⌜ r ≡ wellFormed (now (records .entry)) (now (rows .entry)) ⌝ }
-{
-    let wanted = rows_wanted(records);
-    if MOST_ROWS < wanted {
-        return false;
-    }
-    if rows.len() == wanted * 2 {
-        return rows_formed(records, rows);
-    }
-    false
 }

@@ -4,11 +4,15 @@ mod formed;
 mod places;
 mod read_write;
 mod reads;
+mod rows;
 
 ghost use mathlib.Core.Path.{_≡_};
-ghost use Rattle.stored_spec.specs.StoredForm.{wellFormed, recordsFormed, cellCount};
+ghost use lib.ListN.{length, getD};
+ghost use Rattle.laws.specs.Lists.{puts};
+ghost use Rattle.stored_spec.specs.RowBytes.{oneByte};
+ghost use Rattle.stored_spec.specs.StoredForm.{wellFormed, wellFormedAs, recordsFormed, cellCount};
 ghost use Rattle.stored.specs.Places.{cellPlace};
-ghost use Rattle.stored.specs.Reads.{rowsCounted, cellRails, rowRead, outputsRead};
+ghost use Rattle.stored.specs.Reads.{oneByteFits, rowsCounted, cellRails, rowRead, outputsRead};
 ghost use Rattle.stored.specs.RecordArrays.{cascadeFrom, readAs};
 ghost use Rattle.stored_spec.specs.ReadWrite.{read, writtenAs, write};
 use sheet_spec::MOST_VARIABLES;
@@ -39,7 +43,28 @@ pub struct CellPlace {
 pub fn well_formed(records: &[u8], rows: &[u8]) -> bool
     ensures { λ r. ⌜ r ≡ wellFormed (now (records .entry)) (now (rows .entry)) ⌝ }
 {
-    formed::formed(records, rows)
+    rows::formed(records, rows)
+}
+
+// The same with one byte a row, by document 01's rules before document 02, §6.
+pub fn one_byte_formed(records: &[u8], rows: &[u8]) -> bool
+    ensures { λ r. ⌜ r ≡ wellFormedAs oneByte (now (records .entry)) (now (rows .entry)) ⌝ }
+{
+    rows::one_byte_formed(records, rows)
+}
+
+// At most 80 bytes of records, no cell of which has more outputs than a row of one byte has bits.
+pub fn one_byte_fits(records: &[u8]) -> bool
+    ensures { λ r. ⌜ r ≡ oneByteFits (now (records .entry)) ⌝ }
+{
+    reads::one_byte_fits(records)
+}
+
+// Copies bytes to the front of others, as many as there is room for.
+pub fn copy_front(from: &[u8], to: &mut [u8])
+    ensures { λ _. ⌜ now (to .exit) ≡ puts (length (now (from .entry))) (λ i. getD (now (from .entry)) i 0) (now (to .entry)) ⌝ }
+{
+    read_write::copy_bytes(from, to)
 }
 
 // Reads a stored cascade: its records, where both are well formed; its rows are the row bytes as they stand.

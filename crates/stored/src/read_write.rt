@@ -13,7 +13,8 @@ ghost use Rattle.stored_spec.specs.ReadWrite.{recordBytes, cascadeOf, read, wri
 use crate::ReadRecords;
 use crate::StoredRecords;
 use crate::casts::narrow;
-use crate::formed::formed;
+use crate::rows::formed;
+use numbers::least;
 use numbers::wide;
 use sheet_spec::MOST_VARIABLES;
 use stored_spec::MOST_RECORD_BYTES;
@@ -91,13 +92,13 @@ fn bytes_of(from: StoredRecords, bytes: &mut [u8; MOST_RECORD_BYTES])
     }
 }
 
-// All bytes of from, at the front of to.
-fn copy_bytes(from: &[u8], to: &mut [u8])
-    requires { ⌜ length (now from) ≤ length (now to) ⌝ }
+// The bytes of from, at the front of to, as many as there is room for.
+pub fn copy_bytes(from: &[u8], to: &mut [u8])
     ensures { λ _. ⌜ now (to .exit) ≡ puts (length (now (from .entry))) (λ i. getD (now (from .entry)) i 0) (now (to .entry)) ⌝ }
 {
+    let count = least(from.len(), to.len());
     let mut i = 0;
-    while i < from.len() {
+    while i < count {
         to[i] = from[i];
         i += 1;
     }

@@ -8,7 +8,7 @@ ghost use Rattle.laws.specs.Bits.{bit};
 ghost use Rattle.sheet_spec.specs.Limits.{largestOutputs};
 ghost use Rattle.stored_spec.specs.StoredForm.{cellCount, cellAt};
 ghost use Rattle.stored_spec.specs.Run.{address, outputsAfter};
-ghost use Rattle.stored.specs.Reads.{hasCell, cellsFit, rowsCounted, cellRails, rowRead, outputsRead};
+ghost use Rattle.stored.specs.Reads.{hasCell, cellsFit, oneByteFits, rowsCounted, cellRails, rowRead, outputsRead};
 use crate::CellRails;
 use crate::casts::narrow;
 use crate::casts::power;
@@ -41,7 +41,17 @@ fn few_fit(records: &[u8]) -> bool
     ensures { λ r. ⌜ r ≡ cellsFit (now (records .entry)) ⌝ }
 {
     if records.len() <= MOST_RECORD_BYTES {
-        return cells_fit(records);
+        return cells_fit(records, 2);
+    }
+    false
+}
+
+// At most 80 bytes, whose cells fit rows of one byte.
+pub fn one_byte_fits(records: &[u8]) -> bool
+    ensures { λ r. ⌜ r ≡ oneByteFits (now (records .entry)) ⌝ }
+{
+    if records.len() <= MOST_RECORD_BYTES {
+        return cells_fit(records, 1);
     }
     false
 }

@@ -15,6 +15,6 @@ pub use Rattle.stored_spec.proofs.RoundTrips.{read-write}
 -- words that agree on the inputs of the cells read make the same run, and so do rows with the same values; words with the same bits 0 to 11 read the same rows
 pub use Rattle.stored_spec.proofs.SameRuns.{same-run, SameInputs, same-place, kept-inputs, rail-within, same-rows}
 -- rows and their bytes
-pub use Rattle.stored_spec.proofs.RowForms.{length-rowBytes, row-kept, row-lt, row-two, room-two, room-rise, row-before, row-written, row-part}
+pub use Rattle.stored_spec.proofs.RowForms.{length-rowBytes, bytes-small, row-kept, row-lt, row-two, room-two, room-rise, row-before, row-written, row-part}
 -- a run keeps the number of outputs
 pub use Rattle.stored_spec.proofs.Runs.{set-length}

@@ -1,24 +1,25 @@
 -- Rows and their bytes: z bytes a row, and back.
 -- Assumes nothing.
-use mathlib.Core.Path.{_≡_, refl, _∙_, ap, ap₂}
+use mathlib.Core.Path.{_≡_, refl, sym, _∙_, ap, ap₂}
 use mathlib.Core.Bool.{_&&_}
 use mathlib.Core.List.{List}
-use Prim.Native.Nat.{ℕ, zero, suc, _+_, _*_, _/_, _%_, _^_, _<_, _≤_}
-use native.Mathlib.Nat.{mod-lt, mod-eq-of-lt, mul-le-mul-right, add-mul}
+use Prim.Native.Nat.{ℕ, zero, suc, _+_, _-_, _*_, _/_, _%_, _^_, _<_, _≤_}
+use native.Mathlib.Nat.{mod-lt, mod-eq-of-lt, mul-le-mul-right, add-mul, not-suc-le-zero, div-lt-iff-lt-mul, div-add-mod', mul-div-cancel}
 use native.Mathlib.Omega.{arith}
 use lib.Dec.{eqb, ltb}
 use lib.ListN.{length, getD, take, drop}
-use lib.Seq.{getD-take, getD-drop}
-use lib.Pow.{pow-pos, pow-add, mod-pow-add}
+use lib.Seq.{getD-take, getD-drop, ext-getD}
+use lib.Pow.{pow-pos, pow-add, mod-pow-add, mod-mod-pow, field, high, low}
 use lib.Arith.{digits-lt}
 use Rattle.laws.specs.Tests.{every, sum}
-use Rattle.laws.specs.Lists.{rect, written}
+use Rattle.laws.specs.Lists.{tab, rect, written}
+use Rattle.laws.proofs.Cases.{last-or-below}
 use Rattle.laws.proofs.Counts.{sum-ext}
 use Rattle.laws.proofs.Filled.{getD-before, getD-written}
-use Rattle.laws.proofs.Lists.{row-end, length-rect, getD-rect}
+use Rattle.laws.proofs.Lists.{row-end, length-tab, getD-tab, tab-ext, tab-of, length-rect, getD-rect, rect-each}
 use Rattle.laws.proofs.Tests.{every-ext}
 use Rattle.stored_spec.specs.Cells.{Cell, rows}
-use Rattle.stored_spec.specs.RowBytes.{oneByte, rowValue, room, rowBytes}
+use Rattle.stored_spec.specs.RowBytes.{oneByte, rowValue, rowsOf, room, rowBytes}
 use Rattle.stored_spec.specs.StoredForm.{cellCount, cellAt, sizeOf, rowsBefore, rowCount, recordsFormedAs, rowsFormedAs, wellFormedAs}
 
 -- bytes put together, lowest first
@@ -34,6 +35,31 @@ joined-lt (suc z) d h =
     let before = joined-lt z d (λ b l. h b (omega arith)) in
     let whole : d z * 2 ^ (8 * z) + joinedBytes z d < 2 ^ 8 * 2 ^ (8 * z) = digits-lt (h z (omega arith)) before in
     rw (ap (λ (k : ℕ). 2 ^ k) (more-bits z) ∙ pow-add 2 8 (8 * z)) (omega arith)
+
+-- a number put above k bits does not show in the 8 bits from e on
+lower : (q r k e : ℕ) → e + 8 ≤ k → r < 2 ^ k → (q * 2 ^ k + r) / 2 ^ e % 256 ≡ r / 2 ^ e % 256
+lower q r k e l h =
+    let n = q * 2 ^ k + r in
+    let j = k - (8 + e) in
+    let whole : j + (8 + e) ≡ k = omega arith in
+    let cut : n % 2 ^ (8 + e) ≡ r % 2 ^ (8 + e) =
+    sym (mod-mod-pow n j (8 + e)) ∙ ap (λ (x : ℕ). n % 2 ^ x % 2 ^ (8 + e)) whole ∙ ap (λ (x : ℕ). x % 2 ^ (8 + e)) (low q k h) in
+    sym (field n 8 e) ∙ ap (λ (x : ℕ). x / 2 ^ e) cut ∙ field r 8 e
+
+-- byte b of the number put together
+joined-byte : (z : ℕ) (d : ℕ → ℕ) → ((b : ℕ) → b < z → d b < 256) → (b : ℕ) → b < z → joinedBytes z d / 2 ^ (8 * b) % 256 ≡ d b
+joined-byte zero d h b l = absurd (not-suc-le-zero l)
+joined-byte (suc z) d h b l =
+    let small : (b : ℕ) → b < z → d b < 256 = λ b m. h b (omega arith) in
+    let before = joined-lt z d small in
+    let turn : joinedBytes (suc z) d ≡ d z * 2 ^ (8 * z) + joinedBytes z d = omega arith in
+    last-or-below b z l
+    (λ e.
+    ap₂ (λ (x k : ℕ). x / 2 ^ (8 * k) % 256) turn e ∙ ap (λ (x : ℕ). x % 256) (high (d z) (8 * z) before) ∙ mod-eq-of-lt (h z (omega arith)) ∙ ap d (sym e))
+    (λ m.
+    let k = 8 * z in
+    let c : 8 * b + 8 ≤ k = omega arith in
+    ap (λ (x : ℕ). x / 2 ^ (8 * b) % 256) turn ∙ lower (d z) (joinedBytes z d) k (8 * b) c before ∙ joined-byte z d small b m)
 
 -- a number's bytes put together again: its lowest bits
 bytes-joined : (z x : ℕ) → joinedBytes z (λ b. x / 2 ^ (8 * b) % 256) ≡ x % 2 ^ (8 * z)
@@ -61,6 +87,54 @@ module _ (z : ℕ) where
       (λ b m. ap (λ (x : ℕ). x * 2 ^ (8 * b)) (getD-rect z F 0 (length rows) i b l m))
       ∙ bytes-joined z (getD rows i 0) ∙ mod-eq-of-lt h
 
+  -- the bytes of rows are bytes
+  pub bytes-small : (rows : List ℕ) (i : ℕ) → getD (rowBytes z rows) i 0 < 256
+  unfolding rowBytes
+  bytes-small rows i =
+      rect-each (λ (x : ℕ). x < 256) 0 (omega arith) (λ i b. getD rows i 0 / 2 ^ (8 * b) % 256) (λ i b. mod-lt (getD rows i 0 / 2 ^ (8 * b)) (omega arith)) (length rows) z i
+
+  pub length-rowsOf : (bytes : List ℕ) → length (rowsOf z bytes) ≡ length bytes / z
+  unfolding rowsOf
+  length-rowsOf bytes = length-tab (rowValue z bytes) (length bytes / z)
+
+  pub row-at : (bytes : List ℕ) (i : ℕ) → i < length bytes / z → getD (rowsOf z bytes) i 0 ≡ rowValue z bytes i
+  unfolding rowsOf
+  row-at bytes i l = getD-tab (rowValue z bytes) 0 (length bytes / z) i l
+
+  module _ (some : 0 < z) where
+    -- so many rows are in the bytes that n rows take
+    pub rows-room : (n : ℕ) → room z n / z ≡ n
+    unfolding room
+    rows-room n = mul-div-cancel n some
+
+    -- rows, their bytes, and the rows of these
+    pub rows-kept : (rows : List ℕ) → ((i : ℕ) → i < length rows → getD rows i 0 < 2 ^ (8 * z)) → rowsOf z (rowBytes z rows) ≡ rows
+    unfolding rowsOf
+    rows-kept rows h =
+        let n : length (rowBytes z rows) / z ≡ length rows = ap (λ (x : ℕ). x / z) (length-rowBytes rows) ∙ rows-room (length rows) in
+        ap (λ (k : ℕ). tab k (rowValue z (rowBytes z rows))) n
+        ∙ tab-ext (rowValue z (rowBytes z rows)) (λ i. getD rows i 0) (length rows) (λ i l. row-kept rows i l (h i l)) ∙ tab-of 0 rows
+
+    -- bytes, their rows, and the bytes of these
+    pub bytes-kept : (bytes : List ℕ) (n : ℕ) → length bytes ≡ room z n → ((i : ℕ) → getD bytes i 0 < 256) → rowBytes z (rowsOf z bytes) ≡ bytes
+    unfolding rowBytes room rowValue
+    bytes-kept bytes n e h =
+        let count : length (rowsOf z bytes) ≡ n = length-rowsOf bytes ∙ ap (λ (x : ℕ). x / z) e ∙ mul-div-cancel n some in
+        let whole : length bytes / z ≡ n = ap (λ (x : ℕ). x / z) e ∙ mul-div-cancel n some in
+        let F : ℕ → ℕ → ℕ = λ i b. getD (rowsOf z bytes) i 0 / 2 ^ (8 * b) % 256 in
+        ext-getD 0 (rect (length (rowsOf z bytes)) z F) bytes (length-rect z F (length (rowsOf z bytes)) ∙ ap (λ (k : ℕ). k * z) count ∙ sym e)
+        (λ j l.
+        let i = j / z in
+        let b = j % z in
+        let b< : b < z = mod-lt j some in
+        let at : i * z + b ≡ j = div-add-mod' j z in
+        let total : j < n * z = omega (arith, length-rect z F (length (rowsOf z bytes)), ap (λ (k : ℕ). k * z) count) in
+        let i< : i < n = div-lt-iff-lt-mul some .1 total in
+        ap (λ (k : ℕ). getD (rect (length (rowsOf z bytes)) z F) k 0) (sym at)
+        ∙ getD-rect z F 0 (length (rowsOf z bytes)) i b (omega arith) b<
+        ∙ ap (λ (x : ℕ). x / 2 ^ (8 * b) % 256) (row-at bytes i (omega arith))
+        ∙ joined-byte z (λ b. getD bytes (i * z + b) 0) (λ b m. h (i * z + b)) b b< ∙ ap (λ (k : ℕ). getD bytes k 0) at)
+
 -- more rows take no less room
 pub room-rise : (z m n : ℕ) → m ≤ n → room z m ≤ room z n
 unfolding room
@@ -76,11 +150,11 @@ unfolding rowValue
 row-two bytes i = let e : i * 2 + 0 ≡ i * 2 = omega arith in omega (arith, ap (λ (k : ℕ). getD bytes k 0) e)
 
 -- with one byte a row: document 01's stored form
-room-one : (n : ℕ) → room oneByte n ≡ n
+pub room-one : (n : ℕ) → room oneByte n ≡ n
 unfolding room
 room-one n = omega arith
 
-row-one : (bytes : List ℕ) (i : ℕ) → rowValue oneByte bytes i ≡ getD bytes i 0
+pub row-one : (bytes : List ℕ) (i : ℕ) → rowValue oneByte bytes i ≡ getD bytes i 0
 unfolding rowValue
 row-one bytes i = let e : i * 1 + 0 ≡ i = omega arith in omega (arith, ap (λ (k : ℕ). getD bytes k 0) e)
 

@@ -6,11 +6,13 @@ use mathlib.Core.List.{List}
 use Prim.Native.Nat.{ℕ, _-_, _*_, _≤_, _<_}
 use lib.Dec.{eqb, leb}
 use lib.ListN.{length}
-use borrow.Author.Tests.{eqb-true, leb-true}
+use native.Mathlib.Omega.{arith}
+use borrow.Author.Tests.{eqb-true, eq-eqb, leb-true, le-leb}
 use Rattle.laws.specs.Tests.{every, within}
-use Rattle.laws.proofs.Cases.{and-split}
-use Rattle.laws.proofs.Tests.{every-at}
-use Rattle.stored_spec.specs.StoredForm.{recordCount, cutByte, railByte, recordFormed, cellCount, cellFormedAs, rowCount, recordsFormedAs}
+use Rattle.laws.proofs.Cases.{and-split, and-join}
+use Rattle.laws.proofs.Tests.{every-of, every-at, within-yes}
+use Rattle.stored_spec.specs.Cells.{fits}
+use Rattle.stored_spec.specs.StoredForm.{recordCount, cutByte, railByte, recordFormed, cellCount, cellAt, sizeOf, cellFormedAs, rowCount, recordsFormedAs}
 
 -- whole records, 1 to 20 of them
 pub shape-has : (R : List ℕ) → (eqb (length R) (recordCount R * 4) && within 1 20 (recordCount R)) ≡ true
@@ -50,6 +52,33 @@ records-have z R e =
       cells = f .1;
       rows = leb-true (rowCount R) 32768 (g .1);
     }
+
+-- well formed records whose cells fit the form with b bytes a row are well formed in it
+pub records-fit : (a b : ℕ) (R : List ℕ) → recordsFormedAs a R ≡ true → every (cellCount R) (cellFormedAs b R) ≡ true → recordsFormedAs b R ≡ true
+unfolding recordsFormedAs
+records-fit a b R formed fit =
+    let h = records-have a R formed in
+    and-join
+    (and-join
+    (and-join
+    (and-join
+    (and-join
+    (and-join (eq-eqb (length R) (recordCount R * 4) (h .whole)) (within-yes 1 20 (recordCount R) (h .some) (h .few)))
+    (every-of (recordFormed R) (recordCount R) (h .each)))
+    (eq-eqb (cutByte R (recordCount R - 1)) 1 (h .last)))
+    (eq-eqb (railByte R (recordCount R - 1)) 0 (h .ends)))
+    fit)
+    (le-leb (rowCount R) 32768 (h .rows))
+
+-- cells that fit rows of fewer bytes fit rows of more
+pub fit-more : (a b : ℕ) (R : List ℕ) → a ≤ b → every (cellCount R) (cellFormedAs a R) ≡ true → every (cellCount R) (cellFormedAs b R) ≡ true
+unfolding cellFormedAs fits
+fit-more a b R h e =
+    every-of (cellFormedAs b R) (cellCount R)
+    (λ k l.
+    let c = sizeOf (cellAt R k) in
+    let (i, o) = and-split (leb (c .inputs) 12) (leb (c .outputs) (8 * a)) (every-at (cellFormedAs a R) (cellCount R) e k l) in
+    and-join i (le-leb (c .outputs) (8 * b) (omega (arith, leb-true (c .outputs) (8 * a) o))))
 
 -- five tests, of which the fourth is made first
 module _ (a b c d e : Bool) where

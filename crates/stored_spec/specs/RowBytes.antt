@@ -5,7 +5,7 @@ use Prim.Native.Nat.{ℕ, _+_, _*_, _/_, _%_, _^_}
 use mathlib.Core.List.{List}
 use lib.ListN.{length, getD}
 use Rattle.laws.specs.Tests.{sum}
-use Rattle.laws.specs.Lists.{rect}
+use Rattle.laws.specs.Lists.{tab, rect}
 use Rattle.sheet_spec.specs.Limits.{mostRows}
 
 abbrev pub oneByte : ℕ
@@ -26,6 +26,10 @@ module _ (z : ℕ) where
   -- the value of row i in row bytes
   unfoldable pub rowValue : List ℕ → ℕ → ℕ
   rowValue bytes i = sum z (λ b. getD bytes (i * z + b) 0 * 2 ^ (8 * b))
+
+  -- the values of the rows in row bytes, in order
+  unfoldable pub rowsOf : List ℕ → List ℕ
+  rowsOf bytes = tab (length bytes / z) (rowValue bytes)
 
   -- how many bytes n rows take
   unfoldable pub room : ℕ → ℕ

@@ -1,7 +1,7 @@
 -- `all_rows` counts the rows of all cells that fit.
 -- Assumes nothing.
 use Rattle.stored.proofs.RecordSteps.{Begun, turn, none-begun, begun-small, few-now, turn-begun}
-use Rattle.stored.proofs.formed.RowTotals.{turn-counted}
+use Rattle.stored.proofs.RowTotals.{turn-counted}
 use Rattle.stored.specs.Formed.{tooMany, Counted}
 use Rattle.stored_spec.specs.RowBytes.{twoBytes}
 use Rattle.stored_spec.proofs.StoredCells.{cellsTo, fitAll, rowSum, begin, fit-all, rows-all}

@@ -5,6 +5,9 @@ use borrow.Author.Needs.{needs}
 use Rattle.stored.proofs.formed.cell_fits.Statement.{statement}
 use Rattle.stored.proofs.formed.cell_fits.Tie as tie
 
+mul-fits : tie.Need-mul-fits
+mul-fits c = search needs
+
 fits-requires : tie.Need-fits-requires
 fits-requires c κs = search needs
 
@@ -15,4 +18,4 @@ returns-2 : tie.Need-returns-2
 returns-2 c = rw (ne-eqb _ _ (c .if1 .left))
 
 pub cell-fits-spec : {M : Type 1} → statement M
-cell-fits-spec = tie.close (tie.spec fits-requires returns returns-2)
+cell-fits-spec = tie.close (tie.spec mul-fits fits-requires returns returns-2)

@@ -1,7 +1,6 @@
 -- `cells_fit` tests each cell.
 -- Assumes nothing.
 use Rattle.stored.proofs.RecordSteps.{Begun, turn, none-begun, begun-small, few-now, turn-begun, turn-fit}
-use Rattle.stored_spec.specs.RowBytes.{twoBytes}
 use Rattle.stored_spec.proofs.StoredCells.{cellsTo, fitAll, begin, fit-all}
 use mathlib.Core.Path.{_≡_, sym, _∙_}
 use Rattle.stored_spec.specs.StoredForm.{recordCount}
@@ -13,14 +12,14 @@ use Rattle.stored.proofs.formed.cells_fit.Statement.{statement}
 use Rattle.stored.proofs.formed.cells_fit.Tie as tie
 
 abbrev Inv-loop : tie.InvT-loop
-Inv-loop records count fit₀ ins₀ outs₀ upper₀ i₀ fit ins outs upper i =
-    (i ≤ count) × Begun records i ins outs upper × (fit ≡ fitAll twoBytes (cellsTo records i))
+Inv-loop records size count fit₀ ins₀ outs₀ upper₀ i₀ fit ins outs upper i =
+    (i ≤ count) × Begun records i ins outs upper × (fit ≡ fitAll size (cellsTo records i))
 
 abbrev μ-loop : tie.MeasureT-loop
-μ-loop records count fit₀ ins₀ outs₀ upper₀ i₀ fit ins outs upper i = count - i
+μ-loop records size count fit₀ ins₀ outs₀ upper₀ i₀ fit ins outs upper i = count - i
 
 loop-holds : tie.Need-loop-holds Inv-loop μ-loop
-loop-holds c = (omega arith, none-begun (now (c .before .args .records)), sym (begin twoBytes (now (c .before .args .records)) .0))
+loop-holds c = (omega arith, none-begun (now (c .before .args .records)), sym (begin (c .before .args .size) (now (c .before .args .records)) .0))
 
 mul-wide : tie.Need-mul-wide Inv-loop μ-loop
 mul-wide c = search needs
@@ -116,14 +115,14 @@ loop-again c =
     let t = turn (l .inv .1) (w .ensures .0) (w2 .ensures .0) (w3 .ensures) (iw .ensures) (ow .ensures) in (
       omega arith,
       turn-begun t (c .before .before .after .ensures) (c .before .after2 .ensures) (c .after3 .ensures),
-      turn-fit t (l .inv .2) (c .before .before .before .cell-fits .ensures),
+      turn-fit t _ (l .inv .2) (c .before .before .before .cell-fits .ensures),
     )
 
 returns : tie.Need-returns Inv-loop μ-loop
 returns c =
     let R = now (c .before .before .before .args .records) in
     let e : c .before .loop .i ≡ recordCount R = omega arith in
-    (rw e at (c .before .loop .inv .2)) ∙ fit-all twoBytes R
+    (rw e at (c .before .loop .inv .2)) ∙ fit-all _ R
 
 pub cells-fit-spec : {M : Type 1} → statement M
 cells-fit-spec =

@@ -8,7 +8,7 @@ use borrow.Author.Needs.{needs}
 use denote.Ref.{now}
 use Rattle.laws.specs.Tests.{every}
 use Rattle.stored_spec.specs.StoredForm.{recordCount, cutByte, railByte, recordFormed, cellCount, cellFormed}
-use Rattle.stored.proofs.formed.RowTotals.{counted-yes, counted-no}
+use Rattle.stored.proofs.RowTotals.{counted-yes, counted-no}
 use Rattle.stored.proofs.formed.contents_rows.Statement.{statement}
 use Rattle.stored.proofs.formed.contents_rows.Tie as tie
 

@@ -2,7 +2,7 @@
 -- Assumes nothing.
 use denote.Ref.{now}
 use borrow.Author.Needs.{needs}
-use Rattle.stored.proofs.formed.RowTotals.{wanted-test}
+use Rattle.stored.proofs.RowTotals.{wanted-test}
 use Rattle.stored.proofs.formed.records_formed.Statement.{statement}
 use Rattle.stored.proofs.formed.records_formed.Tie as tie
 

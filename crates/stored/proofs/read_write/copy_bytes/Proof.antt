@@ -1,30 +1,46 @@
--- `stored::read_write::copy_bytes` meets its contract.
+-- `copy_bytes` copies as many bytes as there is room for.
 -- Assumes nothing.
-use mathlib.Core.Path.{_≡_, refl, sym, _∙_}
-use Prim.Native.Nat.{_≤_, _-_}
-use lib.ListN.{length, getD, length-set}
-use Rattle.laws.specs.Lists.{puts}
-use Rattle.laws.proofs.Puts.{puts-none, puts-next}
+use mathlib.Core.Path.{_≡_, refl, sym, _∙_, ap}
+use mathlib.Core.List.{List}
+use Prim.Native.Nat.{ℕ, _≤_, _+_, _-_, min}
+use native.Mathlib.Nat.{min-eq-left, min-eq-right}
 use native.Mathlib.Omega.{arith}
 use borrow.Author.Needs.{needs}
+use denote.Ref.{now}
+use lib.ListN.{length, getD, length-set}
+use Rattle.laws.specs.Lists.{puts}
+use Rattle.laws.proofs.Cases.{by-less}
+use Rattle.laws.proofs.Puts.{puts-none, puts-next, puts-past}
 use Rattle.stored.proofs.read_write.copy_bytes.Statement.{statement}
 use Rattle.stored.proofs.read_write.copy_bytes.Tie as tie
 
+as-many : (f : ℕ → ℕ) (n : ℕ) (l : List ℕ) → puts (min n (length l)) f l ≡ puts n f l
+as-many f n l =
+    by-less (length l) n
+    (λ h.
+    let more : length l + (n - length l) ≡ n = omega arith in
+    ap (λ (k : ℕ). puts k f l) (min-eq-right (omega arith)) ∙ sym (puts-past f (length l) (n - length l) l (omega arith)) ∙ ap (λ (k : ℕ). puts k f l) more)
+    (λ h. ap (λ (k : ℕ). puts k f l) (min-eq-left h))
+
 abbrev Inv-loop : tie.InvT-loop
-Inv-loop from to₀ i₀ to i =
-    (i ≤ length from) × (to ≡ puts i (λ i. getD from i 0) to₀) × (length to ≡ length to₀)
+Inv-loop from to₀ count i₀ to i = (i ≤ count) × (to ≡ puts i (λ i. getD from i 0) to₀) × (length to ≡ length to₀)
 
 abbrev μ-loop : tie.MeasureT-loop
-μ-loop from to₀ i₀ to i = length from - i
+μ-loop from to₀ count i₀ to i = count - i
+
+least-requires : tie.Need-least-requires Inv-loop μ-loop
+least-requires c κs = search needs
 
 loop-holds : tie.Need-loop-holds Inv-loop μ-loop
-loop-holds c = let a = c .args in (omega arith, sym (puts-none (λ i. getD (a .from .now) i 0) (a .to .now)), refl)
+loop-holds c =
+    let a = c .before .before .before .args in
+    (omega arith, sym (puts-none (λ i. getD (now (a .from)) i 0) (now (a .to))), refl)
 
 shared-slice-read-to : tie.Need-shared-slice-read-to Inv-loop μ-loop
 shared-slice-read-to c = search needs
 
 slice-write-to : tie.Need-slice-write-to Inv-loop μ-loop
-slice-write-to c = omega arith
+slice-write-to c = search needs
 
 add-i : tie.Need-add-i Inv-loop μ-loop
 add-i c = search needs
@@ -35,17 +51,21 @@ loop-less c = search needs
 loop-again : tie.Need-loop-again Inv-loop μ-loop
 loop-again c =
     let l = c .before .before .loop in
-    let a = c .before .before .before .args in
-    (omega arith, puts-next (λ i. getD (a .from .now) i 0) (l .i) (a .to .now) (l .to) _ (l .inv .1) refl, length-set (l .to) (l .i) _ ∙ l .inv .2)
+    let a = c .before .before .before .before .before .before .args in
+    (omega arith, puts-next (λ i. getD (now (a .from)) i 0) (l .i) (now (a .to)) (l .to) _ (l .inv .1) refl, length-set (l .to) (l .i) _ ∙ l .inv .2)
 
 same-length : tie.Need-same-length Inv-loop μ-loop
-same-length c = c .before .loop .inv .2
+same-length c = search needs
 
 returns : tie.Need-returns Inv-loop μ-loop
 returns c =
     let l = c .before .loop in
-    let e : l .i ≡ length (c .before .before .args .from .now) = omega arith in
-    rw e at (l .inv .1)
+    let a = c .before .before .before .before .before .args in
+    let m = c .before .before .least in
+    let F : ℕ → ℕ = λ i. getD (now (a .from)) i 0 in
+    let n = length (now (a .from)) in
+    let e : l .i ≡ m .result = omega arith in
+    l .inv .1 ∙ ap (λ (x : ℕ). puts x F (now (a .to))) (e ∙ m .ensures .0) ∙ as-many F n (now (a .to))
 
 pub copy-bytes-spec : {M : Type 1} → statement M
 copy-bytes-spec =
@@ -53,6 +73,7 @@ copy-bytes-spec =
     (tie.spec
     Inv-loop
     μ-loop
+    least-requires
     loop-holds
     shared-slice-read-to
     slice-write-to

@@ -10,21 +10,21 @@ use Rattle.stored_spec.proofs.StoredCells.{cellsTo, rowSum, bytesFit, rowsBelow
 use Rattle.stored.proofs.RecordSteps.{Begun, turn, none-begun, begun-small, few-now, inputs-now, outputs-now, turn-begun, turn-rows, turn-bytes}
 use native.Mathlib.Omega.{arith}
 use borrow.Author.Needs.{needs}
-use Rattle.stored.proofs.formed.rows_formed.Statement.{statement}
-use Rattle.stored.proofs.formed.rows_formed.Tie as tie
+use Rattle.stored.proofs.rows.rows_formed.Statement.{statement}
+use Rattle.stored.proofs.rows.rows_formed.Tie as tie
 
 abbrev Inv-loop : tie.InvT-loop
-Inv-loop records rows count formed₀ at₀ ins₀ outs₀ upper₀ i₀ formed at ins outs upper i =
-    (i ≤ count) × Begun records i ins outs upper × (at ≡ rowSum (cellsTo records i)) × (at ≤ i * 4096) × (formed ≡ bytesFit twoBytes rows (cellsTo records i))
+Inv-loop records rows size count formed₀ at₀ ins₀ outs₀ upper₀ i₀ formed at ins outs upper i =
+    (i ≤ count) × Begun records i ins outs upper × (at ≡ rowSum (cellsTo records i)) × (at ≤ i * 4096) × (formed ≡ bytesFit size rows (cellsTo records i))
 
 abbrev μ-loop : tie.MeasureT-loop
-μ-loop records rows count formed₀ at₀ ins₀ outs₀ upper₀ i₀ formed at ins outs upper i = count - i
+μ-loop records rows size count formed₀ at₀ ins₀ outs₀ upper₀ i₀ formed at ins outs upper i = count - i
 
 loop-holds : tie.Need-loop-holds Inv-loop μ-loop
 loop-holds c =
     let a = c .before .before .args in
     let R = now (a .records) in
-    (omega arith, none-begun R, sym (begin twoBytes R .1), omega arith, sym (bytes-begin twoBytes (now (a .rows)) R))
+    (omega arith, none-begun R, sym (begin twoBytes R .1), omega arith, sym (bytes-begin (a .size) (now (a .rows)) R))
 
 mul-wide : tie.Need-mul-wide Inv-loop μ-loop
 mul-wide c = search needs
@@ -106,15 +106,18 @@ cell-below-requires c κs =
     let a = c .before .before .before .before .before .before .before .before .before .before .before .before in
     let R = now (a .args .records) in
     let i = l .i in
-    let t = turn (l .inv .1) (w .ensures .0) (w2 .ensures .0) (w3 .ensures) (iw .ensures) (ow .ensures) in
-    λ e.
-    let q = sym (w2 .ensures .0) ∙ e in
-    let less : i < recordCount R = c .before .before .before .before .before .before .before .before .loop-test .taken in
-    let h = cell-small twoBytes R (a .pre .1) i less q in
-    let inside = cell-inside twoBytes R (a .pre .1) i less q in
-    let power = ap (λ (x : ℕ). 2 ^ x) (inputs-now t) in
-    let rise = room-rise twoBytes (l .at + 2 ^ (l .upper + iw .result)) (rowCount R) (omega (arith, inside, power, l .inv .2)) in
-    (omega (arith, inputs-now t, h .0), omega (arith, outputs-now t, h .1), omega (arith, rise, a .pre .2))
+    let t = turn (l .inv .1) (w .ensures .0) (w2 .ensures .0) (w3 .ensures) (iw .ensures) (ow .ensures) in (
+      a .pre .1,
+      a .pre .2,
+      λ e.
+          let q = sym (w2 .ensures .0) ∙ e in
+          let less : i < recordCount R = c .before .before .before .before .before .before .before .before .loop-test .taken in
+          let h = cell-small (a .args .size) R (a .pre .3) i less q in
+          let inside = cell-inside (a .args .size) R (a .pre .3) i less q in
+          let power = ap (λ (x : ℕ). 2 ^ x) (inputs-now t) in
+          let rise = room-rise (a .args .size) (l .at + 2 ^ (l .upper + iw .result)) (rowCount R) (omega (arith, inside, power, l .inv .2)) in
+          (omega (arith, inputs-now t, h .0), omega (arith, outputs-now t, h .1), omega (arith, rise, a .pre .4)),
+    )
 
 add-cell-rows : tie.Need-add-cell-rows Inv-loop μ-loop
 add-cell-rows c =
@@ -142,7 +145,7 @@ cell-rows-requires c κs =
     let t = turn (l .inv .1) (w .ensures .0) (w2 .ensures .0) (w3 .ensures) (iw .ensures) (ow .ensures) in
     λ e.
     let less : i < recordCount R = c .before .before .before .before .before .before .before .before .before .loop-test .taken in
-    let h = cell-small twoBytes R (a .pre .1) i less (sym (w2 .ensures .0) ∙ e) .0 in
+    let h = cell-small (a .args .size) R (a .pre .3) i less (sym (w2 .ensures .0) ∙ e) .0 in
     omega (arith, inputs-now t, h)
 
 add-at : tie.Need-add-at Inv-loop μ-loop
@@ -180,7 +183,7 @@ loop-again c =
       turn-begun t (c .before .before .after .ensures) (c .before .after2 .ensures) (c .after3 .ensures),
       turn-rows t (l .inv .2) (r .ensures .0),
       omega (arith, l .inv .3, r .ensures .1),
-      turn-bytes t (now (a .args .rows)) (l .inv .4) (l .inv .2) (b .ensures),
+      turn-bytes t (a .args .size) (now (a .args .rows)) (l .inv .4) (l .inv .2) (b .ensures),
     )
 
 returns : tie.Need-returns Inv-loop μ-loop
@@ -188,7 +191,7 @@ returns c =
     let a = c .before .before .before .before .args in
     let R = now (a .records) in
     let e : c .before .loop .i ≡ recordCount R = omega arith in
-    (rw e at (c .before .loop .inv .4)) ∙ bytes-all twoBytes (now (a .rows)) R
+    (rw e at (c .before .loop .inv .4)) ∙ bytes-all (a .size) (now (a .rows)) R
 
 pub rows-formed-spec : {M : Type 1} → statement M
 rows-formed-spec =

@@ -9,8 +9,8 @@ use lib.ListN.{length}
 use Rattle.laws.specs.Bits.{marks}
 use Rattle.laws.proofs.Marks.{marks-step}
 use Rattle.stored_spec.specs.RowBytes.{twoBytes, rowValue}
-use Rattle.stored.proofs.formed.bits_of.Statement.{statement}
-use Rattle.stored.proofs.formed.bits_of.Tie as tie
+use Rattle.stored.proofs.rows.bits_of.Statement.{statement}
+use Rattle.stored.proofs.rows.bits_of.Tie as tie
 
 abbrev Inv-loop : tie.InvT-loop
 Inv-loop rows count seen₀ i₀ seen i = (i ≤ count) × (seen ≡ marks 0 (rowValue twoBytes rows) i)

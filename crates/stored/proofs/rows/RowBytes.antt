@@ -3,7 +3,8 @@
 use mathlib.Core.Path.{_≡_, sym, _∙_, ap}
 use mathlib.Core.Bool.{Bool, true, _&&_}
 use mathlib.Core.List.{List}
-use Prim.Native.Nat.{ℕ, zero, suc, _+_, _-_, _*_, _/_, _^_, _≤_, _<_}
+use Prim.Native.Nat.{ℕ, zero, suc, _+_, _*_, _/_, _^_, _≤_, _<_}
+use native.Mathlib.Nat.{add-mul}
 use native.Mathlib.Omega.{arith}
 use lib.Bits.{bitOr, or-lt, or-add-and, and-le-l, and-le-r}
 use lib.Dec.{ltb}
@@ -17,7 +18,7 @@ use Rattle.laws.proofs.Cases.{and-split, and-join, same-test}
 use Rattle.laws.proofs.Marks.{marks-ext}
 use Rattle.laws.proofs.Tests.{every-of}
 use Rattle.stored_spec.specs.RowBytes.{twoBytes, rowValue, room}
-use Rattle.stored_spec.proofs.RowForms.{row-lt, row-part}
+use Rattle.stored_spec.proofs.RowForms.{row-lt, row-part, rows-room}
 use Rattle.stored.specs.Formed.{bitsOf}
 
 -- an or is below a power of 2 where both numbers are
@@ -40,26 +41,25 @@ unfolding marks
 marks-below n g zero = lt-ltb 0 (2 ^ n) (pow-pos n)
 marks-below n g (suc k) = or-below n (marks 0 g k) (g k) ∙ ap (λ (b : Bool). b && ltb (g k) (2 ^ n)) (marks-below n g k)
 
-module _ (rows : List ℕ) (at n : ℕ) where
+-- rows of z bytes
+module _ (z : ℕ) (some : 0 < z) (rows : List ℕ) (at n : ℕ) where
   -- the bits of a part are those of its rows
-  part-bits : (count : ℕ) → room twoBytes (at + count) ≤ length rows
-      → bitsOf (take ((at + count) * 2 - at * 2) (drop (at * 2) rows)) ≡ marks 0 (λ i. rowValue twoBytes rows (at + i)) count
+  part-bits : (count : ℕ) → room z (at + count) ≤ length rows
+      → bitsOf z (take (room z count) (drop (room z at) rows)) ≡ marks 0 (λ i. rowValue z rows (at + i)) count
   unfolding room
   part-bits count l =
-      let some : (at + count) * 2 - at * 2 ≡ count * 2 = omega arith in
-      let size : length (take (count * 2) (drop (at * 2) rows)) ≡ count * 2 =
-      length-take-le (count * 2) (drop (at * 2) rows) (omega (arith, length-drop (at * 2) rows, l)) in
-      let half : length (take (count * 2) (drop (at * 2) rows)) / 2 ≡ count = omega (arith, size) in
-      ap (λ (k : ℕ). bitsOf (take k (drop (at * 2) rows))) some
-      ∙ ap (marks 0 (rowValue twoBytes (take (count * 2) (drop (at * 2) rows)))) half
-      ∙ marks-ext 0 (rowValue twoBytes (take (count * 2) (drop (at * 2) rows))) (λ i. rowValue twoBytes rows (at + i)) count
-      (λ i h. row-part twoBytes rows at count i h)
+      let part = take (count * z) (drop (at * z) rows) in
+      let size : length part ≡ count * z = length-take-le (count * z) (drop (at * z) rows) (omega (arith, length-drop (at * z) rows, l, add-mul at count z)) in
+      let whole : length part / z ≡ count = ap (λ (k : ℕ). k / z) size ∙ rows-room z some count in
+      ap (marks 0 (rowValue z part)) whole
+      ∙ marks-ext 0 (rowValue z part) (λ i. rowValue z rows (at + i)) count (λ i h. row-part z rows at count i h)
 
-  pub bits-below : (count : ℕ) → room twoBytes (at + count) ≤ length rows
-      → ltb (bitsOf (take ((at + count) * 2 - at * 2) (drop (at * 2) rows))) (2 ^ n) ≡ every count (λ i. ltb (rowValue twoBytes rows (at + i)) (2 ^ n))
-  bits-below count l = ap (λ (b : ℕ). ltb b (2 ^ n)) (part-bits count l) ∙ marks-below n (λ i. rowValue twoBytes rows (at + i)) count
+  pub bits-below : (count : ℕ) → room z (at + count) ≤ length rows
+      → ltb (bitsOf z (take (room z count) (drop (room z at) rows))) (2 ^ n) ≡ every count (λ i. ltb (rowValue z rows (at + i)) (2 ^ n))
+  bits-below count l = ap (λ (b : ℕ). ltb b (2 ^ n)) (part-bits count l) ∙ marks-below n (λ i. rowValue z rows (at + i)) count
 
-  -- any row is below 2^16
+-- any row of two bytes is below 2^16
+module _ (rows : List ℕ) (at n : ℕ) where
   pub any-below : n ≡ 16 → ((i : ℕ) → getD rows i 0 < 256) → (count : ℕ) → true ≡ every count (λ i. ltb (rowValue twoBytes rows (at + i)) (2 ^ n))
   any-below e h count =
       let p : 65536 ≡ 2 ^ n = ap (λ (k : ℕ). 2 ^ k) (sym e) in

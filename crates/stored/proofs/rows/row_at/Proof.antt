@@ -4,8 +4,8 @@ use mathlib.Core.Path.{sym, _∙_}
 use borrow.Author.Needs.{needs}
 use denote.Ref.{now}
 use Rattle.stored_spec.proofs.RowForms.{row-two}
-use Rattle.stored.proofs.formed.row_at.Statement.{statement}
-use Rattle.stored.proofs.formed.row_at.Tie as tie
+use Rattle.stored.proofs.rows.row_at.Statement.{statement}
+use Rattle.stored.proofs.rows.row_at.Tie as tie
 
 mul-pair : tie.Need-mul-pair
 mul-pair c = search needs

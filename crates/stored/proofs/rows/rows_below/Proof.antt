@@ -1,18 +1,19 @@
 -- `rows_below` tests some rows by the bits that some of them has.
 -- Assumes nothing.
-use mathlib.Core.Path.{_≡_, _∙_, ap₂}
-use Prim.Native.Nat.{ℕ, _+_, _*_, _%_, _^_, _≤_}
+use mathlib.Core.Path.{_≡_, sym, _∙_, ap₂}
+use Prim.Native.Nat.{ℕ, _+_, _-_, _*_, _%_, _^_, _≤_}
 use lib.Dec.{ltb}
-use lib.ListN.{length}
+use lib.ListN.{length, take, drop}
 use lib.Pow.{pow-mono}
 use denote.Ref.{now}
 use native.Mathlib.Omega.{arith}
 use borrow.Author.Needs.{needs}
 use Rattle.stored_spec.specs.RowBytes.{twoBytes, room}
 use Rattle.stored_spec.proofs.RowForms.{room-two}
-use Rattle.stored.proofs.formed.RowBytes.{bits-below, any-below}
-use Rattle.stored.proofs.formed.rows_below.Statement.{statement}
-use Rattle.stored.proofs.formed.rows_below.Tie as tie
+use Rattle.stored.specs.Formed.{bitsOf}
+use Rattle.stored.proofs.rows.RowBytes.{bits-below, any-below}
+use Rattle.stored.proofs.rows.rows_below.Statement.{statement}
+use Rattle.stored.proofs.rows.rows_below.Tie as tie
 
 returns : tie.Need-returns
 returns c =
@@ -52,8 +53,10 @@ returns-2 c =
     let a = s .args in
     let few : 2 ^ a .outputs ≤ 2 ^ 16 = pow-mono (s .pre .1) in
     let power : 1 * 2 ^ a .outputs % 2 ^ 64 ≡ 2 ^ a .outputs = omega (arith, few) in
-    ap₂ ltb (c .wide16 .ensures .0 ∙ c .before .bits-of .ensures) power
-    ∙ bits-below (now (a .rows)) (a .at) (a .outputs) (a .count) (s .pre .0)
+    let some : (a .at + a .count) * 2 - a .at * 2 ≡ room twoBytes (a .count) = omega (arith, room-two (a .count)) in
+    let part = ap₂ (λ (n m : ℕ). bitsOf twoBytes (take n (drop m (now (a .rows))))) some (sym (room-two (a .at))) in
+    ap₂ ltb (c .wide16 .ensures .0 ∙ c .before .bits-of .ensures ∙ part) power
+    ∙ bits-below twoBytes (omega arith) (now (a .rows)) (a .at) (a .outputs) (a .count) (s .pre .0)
 
 pub rows-below-spec : {M : Type 1} → statement M
 rows-below-spec =

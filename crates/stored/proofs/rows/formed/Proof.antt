@@ -10,11 +10,11 @@ use Rattle.laws.proofs.Cases.{and-split}
 use Rattle.stored_spec.specs.RowBytes.{twoBytes, room}
 use Rattle.stored_spec.specs.StoredForm.{rowCount, recordsFormed, wellFormedAs}
 use Rattle.stored_spec.proofs.StoredParts.{records-have}
-use Rattle.stored.proofs.formed.RowTotals.{wanted-many, wanted-rows}
+use Rattle.stored.proofs.RowTotals.{wanted-many, wanted-rows}
 use native.Mathlib.Omega.{arith}
 use borrow.Author.Needs.{needs}
-use Rattle.stored.proofs.formed.formed.Statement.{statement}
-use Rattle.stored.proofs.formed.formed.Tie as tie
+use Rattle.stored.proofs.rows.formed.Statement.{statement}
+use Rattle.stored.proofs.rows.formed.Tie as tie
 
 rows-wanted-requires : tie.Need-rows-wanted-requires
 rows-wanted-requires c κs = search needs
@@ -34,7 +34,7 @@ rows-formed-requires c κs =
     let q = c .before .before .rows-wanted in
     let (well, many) = and-split (recordsFormed R) (eqb n (room twoBytes (rowCount R))) (sym (wanted-rows R (q .ensures) (omega (arith, c .before .if1 .left)) n) ∙ eq-eqb n (q .result * 2) (c .if2 .taken)) in
     let h = records-have twoBytes R well in
-    (omega (arith, h .whole, h .few), h .cells, eqb-true n (room twoBytes (rowCount R)) many)
+    (omega (arith, h .whole, h .few), omega arith, omega arith, h .cells, eqb-true n (room twoBytes (rowCount R)) many)
 
 returns-2 : tie.Need-returns-2
 unfolding wellFormedAs

@@ -1,0 +1,3 @@
+-- Laws of `src/rows.rt`.
+mod OneByte
+mod RowBytes
