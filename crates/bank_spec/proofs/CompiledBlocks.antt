@@ -20,12 +20,12 @@ use Rattle.sheet_spec.proofs.Promises.{job-accepted, output-height}
 use Rattle.reduction_spec.specs.declared.Node.{Node}
 use Rattle.reduction_spec.specs.Merge.{reduced, refuse7}
 use Rattle.stored_spec.specs.RowBytes.{twoBytes, room}
-use Rattle.stored_spec.specs.StoredForm.{cellCount, wellFormed}
+use Rattle.stored_spec.specs.StoredForm.{cellCount, cellAt, sizeOf, wellFormed}
 use Rattle.stored_spec.specs.Run.{Running, run}
-use Rattle.stored_spec.proofs.Promises.{length-rowBytes}
+use Rattle.stored_spec.proofs.Promises.{length-rowBytes, bytes-small}
 use Rattle.cutting_spec.specs.Choice.{refuse8}
 use Rattle.cutting_spec.specs.Compile.{Answer, refused, accepted, CompiledAs, made, totals, acceptance, compile}
-use Rattle.cutting_spec.proofs.Promises.{case, accepts, cuts-some, length-stored, Emitted, emitted-allowed, compiled-unset, cells-count, made-formed, made-cuts, made-count, made-run, made-emits, made-all}
+use Rattle.cutting_spec.proofs.Promises.{case, accepts, cuts-some, length-stored, Emitted, emitted-allowed, compiled-unset, cells-count, made-formed, made-outputs, made-cuts, made-count, made-run, made-emits, made-all}
 use Rattle.bank_spec.specs.Book.{Block}
 use Rattle.bank_spec.specs.Demand3.{CompiledBy, SetAllowed}
 use Rattle.bank_spec.proofs.CompiledAs.{none}
@@ -81,8 +81,15 @@ module _ (j : Job) (s : List ℕ) (B : Block) (c : CompiledBy j s B) where
       c .rowsWritten ∙ ap (λ (r : CompiledAs Node). take (room twoBytes (c .totals .rows)) (r .rows)) accepted-as
       ∙ ap (λ (n : ℕ). take n (written (c .rows) 0 bytes)) rows-made ∙ written-front bytes (c .rows)
 
+  pub compiled-bytes : (i : ℕ) → getD (B .rows) i 0 < 256
+  unfolding made
+  compiled-bytes i = rw compiled-rows (bytes-small twoBytes (made j (table j s) .rows) i)
+
   pub compiled-formed : wellFormed (B .records) (B .rows) ≡ true
   compiled-formed = ap₂ wellFormed compiled-records compiled-rows ∙ made-formed j s compiled-sheet compiled-cut
+
+  pub compiled-outputs : (k : ℕ) → k < cellCount (B .records) → sizeOf (cellAt (B .records) k) .outputs ≤ j .L
+  compiled-outputs k h = rw compiled-records (made-outputs j s compiled-sheet compiled-cut k (omega (arith, ap cellCount compiled-records)))
 
   run-made : (w k : ℕ) → run (B .records) (B .rows) w k ≡ run (made j (table j s) .records) (made j (table j s) .rowBytes) w k
   run-made w k = ap₂ (λ (R bytes : List ℕ). run R bytes w k) compiled-records compiled-rows

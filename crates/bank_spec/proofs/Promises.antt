@@ -9,9 +9,11 @@ pub use Rattle.bank_spec.proofs.AsBook.{fresh-related, call-same}
 pub use Rattle.bank_spec.proofs.StateSizes.{Sized, call-sized}
 -- what the compiler writes is a compiled block
 pub use Rattle.bank_spec.proofs.CompiledAs.{as-compiled}
--- which is well formed, and its outputs are set to allowed values
-pub use Rattle.bank_spec.proofs.CompiledBlocks.{compiled-formed, compiled-whole}
+-- which is well formed, has no cell with more outputs than its job allows, and its outputs are set to allowed values
+pub use Rattle.bank_spec.proofs.CompiledBlocks.{compiled-bytes, compiled-formed, compiled-outputs, compiled-whole}
 -- and it is one for every arrangement of its sheet's records
 pub use Rattle.bank_spec.proofs.LineOrder.{compiled-same, allowed-same}
+-- each block in a book has read some of its cells for its word
+pub use Rattle.bank_spec.proofs.BookHolds.{book-runs}
 -- demand 3
 pub use Rattle.bank_spec.proofs.Demand3.{demand3}

@@ -2,6 +2,7 @@
 mod StateBytes
 pub mod KnownInputs
 pub mod LineOrder
+pub mod OldPanels
 pub mod PanelDemand3
 pub mod WrittenBlocks
 pub mod CaseA

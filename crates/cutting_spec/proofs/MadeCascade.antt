@@ -1,28 +1,33 @@
 -- What is made of an accepted job and sheet: the stored form is well formed, a run over it follows the reduced function, and after its last
 -- cell every output is set to a value that the sheet allows.
 -- Assumes nothing.
-use mathlib.Core.Path.{_≡_, refl, sym, _∙_}
+use mathlib.Core.Path.{_≡_, refl, sym, _∙_, ap}
 use mathlib.Core.Bool.{true, false}
 use mathlib.Core.List.{List, [], _∷_}
-use Prim.Native.Nat.{ℕ, _-_, _<_, _^_}
+use Prim.Native.Nat.{ℕ, suc, _-_, _<_, _≤_, _^_}
 use native.Mathlib.Omega.{arith}
+use lib.Dec.{leb}
 use lib.ListN.{length, getD}
+use borrow.Author.Tests.{leb-true}
+use Rattle.laws.proofs.Cases.{and-split}
 use Rattle.sheet_spec.specs.Job.{Job, t, inputList, numberOf}
 use Rattle.sheet_spec.specs.Values.{value, allows}
 use Rattle.sheet_spec.specs.Refusals.{sheetRefusal}
 use Rattle.sheet_spec.specs.Table.{table}
 use Rattle.reduction_spec.specs.Columns.{layers}
 use Rattle.reduction_spec.specs.Merge.{reduced}
-use Rattle.cutting_spec.specs.Cuts.{CutList, cellsOf}
-use Rattle.cutting_spec.specs.Choice.{refuse8}
+use Rattle.cutting_spec.specs.Cuts.{CutList, cellBetween, cellsOf}
+use Rattle.cutting_spec.specs.Choice.{refuse8, admissible}
 use Rattle.stored_spec.specs.RowBytes.{twoBytes, rowValue}
-use Rattle.stored_spec.specs.StoredForm.{cellCount, rowCount, wellFormed}
+use Rattle.stored_spec.specs.declared.Cell.{Cell}
+use Rattle.stored_spec.specs.Cells.{fits, allFit}
+use Rattle.stored_spec.specs.StoredForm.{cellCount, cellAt, sizeOf, rowCount, wellFormed}
 use Rattle.stored_spec.specs.Run.{run, runBy}
 use Rattle.stored_spec.proofs.Promises.{formed-records, row-kept, same-rows}
 use Rattle.cutting_spec.specs.Compile.{widthsOf, made}
-use Rattle.cutting_spec.proofs.StoredCuts.{cell-count, rows-length, cuts-some}
+use Rattle.cutting_spec.proofs.StoredCuts.{cell-count, cell-size, rows-length, cuts-some}
 use Rattle.cutting_spec.proofs.Emits.{Emitted, compiled-emits, compiled-all}
-use Rattle.cutting_spec.proofs.StoredWell.{compiled-formed, compiled-small}
+use Rattle.cutting_spec.proofs.StoredWell.{fit-at, compiled-formed, compiled-small}
 use Rattle.cutting_spec.proofs.ChosenCuts.{chosen-cuts, chosen-admissible}
 
 pub cells-count : (j : Job) (ws l : List ℕ) → length (cellsOf j ws l) ≡ length l - 1
@@ -46,6 +51,18 @@ module _ (j : Job) (s : List ℕ) (e : sheetRefusal j s ≡ 0) (kept : refuse8 j
   pub made-formed : wellFormed (made j (table j s) .records) (made j (table j s) .rowBytes) ≡ true
   unfolding made
   made-formed = compiled-formed j s e (made j (table j s) .cuts) made-cuts (chosen-admissible j (made j (table j s) .widths) kept)
+
+  -- no cell has more outputs than the job allows
+  pub made-outputs : (k : ℕ) → k < cellCount (made j (table j s) .records) → sizeOf (cellAt (made j (table j s) .records) k) .outputs ≤ j .L
+  unfolding made admissible fits
+  made-outputs k h =
+      let l = made j (table j s) .cuts in
+      let ws = widthsOf (layers j (reduced j (table j s))) in
+      let p : suc k < length l = omega (arith, cell-count j ws l made-cuts) in
+      let c = cellBetween j ws (getD l k 0) (getD l (suc k) 0) in
+      let all = and-split (allFit (j .K) (j .L) (cellsOf j ws l)) _ (chosen-admissible j (made j (table j s) .widths) kept) .0 in
+      let few = leb-true (c .outputs) (j .L) (and-split (leb (c .inputs) (j .K)) (leb (c .outputs) (j .L)) (fit-at j ws (j .K) (j .L) l k all p) .1) in
+      omega (arith, few, ap (λ (x : Cell). x .outputs) (cell-size j ws l made-cuts k p))
 
   -- the rows read from their bytes
   made-rows : (p : ℕ) → p < rowCount (made j (table j s) .records) → rowValue twoBytes (made j (table j s) .rowBytes) p ≡ getD (made j (table j s) .rows) p 0

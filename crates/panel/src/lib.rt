@@ -11,6 +11,8 @@ ghost use Rattle.reduction_spec.specs.Compare.{sameColumns, compatibleColumns};
 ghost use Rattle.reduction_spec.specs.Descent.{descent};
 ghost use Rattle.panel_calls.specs.Exported.{compiledOf, compileBytes, knownOf, knownBytes};
 ghost use Rattle.evaluation_spec.specs.Known.{evaluate};
+ghost use Rattle.row_forms_spec.specs.Moves.{widen, narrow};
+ghost use Rattle.stored_spec.specs.ReadWrite.{writtenAs};
 ghost use Rattle.panel_calls.specs.StateBytes.{called, newBytes, admitBytes, latchBytes, stepBytes};
 use bank_spec::MOST_BLOCKS;
 use panel_calls::BankBytes;
@@ -150,6 +152,36 @@ pub extern "C" fn cascade_known(
         ⌜ knownOf r (now (outputs .exit)) ≡ knownBytes (evaluate (now (records .entry)) (now (rows .entry)) known word) (now (outputs .entry)) ⌝ }
 {
     panel_calls::known(records, rows, known, word, outputs)
+}
+
+// A stored cascade with one byte a row, moved to two bytes a row in the lent memories: 0, or 12, 10 or 11 and they are as they were.
+#[no_mangle]
+pub extern "C" fn cascade_widen(
+    stored: &[u8],
+    bytes: &[u8],
+    records: &mut [u8],
+    rows: &mut [u8],
+) -> u8
+    ensures { λ r.
+        ⌜ writtenAs r (now (records .exit)) (now (rows .exit))
+        ≡ widen (now (stored .entry)) (now (bytes .entry)) (now (records .entry)) (now (rows .entry)) ⌝ }
+{
+    row_forms::widen(stored, bytes, records, rows)
+}
+
+// One with two bytes a row, moved to one byte a row: 0, or 12, 10, 11 or 15 and they are as they were.
+#[no_mangle]
+pub extern "C" fn cascade_narrow(
+    stored: &[u8],
+    bytes: &[u8],
+    records: &mut [u8],
+    rows: &mut [u8],
+) -> u8
+    ensures { λ r.
+        ⌜ writtenAs r (now (records .exit)) (now (rows .exit))
+        ≡ narrow (now (stored .entry)) (now (bytes .entry)) (now (records .entry)) (now (rows .entry)) ⌝ }
+{
+    row_forms::narrow(stored, bytes, records, rows)
 }
 
 // A new bank with the scan limit S, and its fresh scan state; 1 where S is out of range, and then both are as they were.
