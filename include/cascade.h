@@ -140,6 +140,31 @@ uint8_t cascade_known(const uint8_t *records, size_t records_length,
                       uint16_t known, uint16_t word,
                       uint8_t outputs[CASCADE_OUTPUTS]);
 
+/* Moves a stored cascade with one byte a row, as every cascade had it before the row memory became 16 bits wide, to two
+ * bytes a row: records are copied to the front of to_records, and each row byte is followed by a 0 at the front of to_rows;
+ * both keep what lies past the part written. Answers 0, or
+ *   12 records and rows are not well formed by the rules for one byte a row: cells of at most 8 outputs, as many bytes as
+ *      rows, each below 2^outputs
+ *   10 to_records shorter than records               11 to_rows shorter than 2 bytes a row
+ * and then nothing changes. The first that holds in this order is answered. What is moved is well formed by the rules of
+ * today and emits the same outputs for every word, so a bank admits it as it is. Stack: CASCADE_MOVE_STACK bytes are enough
+ * for both ways. */
+#define CASCADE_MOVE_STACK 4096
+uint8_t cascade_widen(const uint8_t *records, size_t records_length,
+                      const uint8_t *rows, size_t rows_length,
+                      uint8_t *to_records, size_t to_records_length,
+                      uint8_t *to_rows, size_t to_rows_length);
+
+/* The way back, from two bytes a row to one, for a panel with the narrow memory. Answers 0, or
+ *   12 records and rows are not well formed          10 to_records shorter than records
+ *   11 to_rows shorter than a byte a row             15 some cell has more than 8 outputs, rails counted
+ * and then nothing changes. The first that holds in this order is answered. Up and back returns the bytes that were there,
+ * and so does back and up, wherever the way back answers 0. */
+uint8_t cascade_narrow(const uint8_t *records, size_t records_length,
+                       const uint8_t *rows, size_t rows_length,
+                       uint8_t *to_records, size_t to_records_length,
+                       uint8_t *to_rows, size_t to_rows_length);
+
 /* The bank holds up to 8 blocks (a block is the records and rows of one cascade), and the scan state says how far a scan
  * has come and which outputs are set. Both are bytes that the caller keeps and lends to each call, with the row memory;
  * nobody else may write them between calls. Whatever they hold, a call reads and writes nothing but what it is lent: every
@@ -166,7 +191,7 @@ uint8_t cascade_known(const uint8_t *records, size_t records_length,
 uint8_t cascade_bank_new(size_t s, uint8_t bank[CASCADE_BANK_BYTES], uint8_t scan[CASCADE_SCAN_BYTES]);
 
 /* Admits a block: copies its records into the bank and appends its rows to the row memory, two bytes a row in both. All set
- * outputs are cleared and no scan runs. A block with one byte a row, as it was before rows had two, is not well formed: 12.
+ * outputs are cleared and no scan runs. A block with one byte a row is not well formed, 12: cascade_widen makes it one.
  * Answers 0, or
  *   12 bank, scan state or block not well formed    13 8 blocks are held
  *   14 the cells of all blocks would exceed S       11 row memory short, or over 32,768 rows in all

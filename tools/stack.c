@@ -65,6 +65,22 @@ static void *evaluate(void *unused)
     return unused;
 }
 
+static uint8_t old_records[CASCADE_RECORD_BYTES];
+static uint8_t old_rows[CASCADE_ROW_BYTES / CASCADE_ROW_SIZE];
+
+static void *narrow(void *unused)
+{
+    refusal = cascade_narrow(records, 4 * variables(), rows, CASCADE_ROW_SIZE * made_rows, old_records, sizeof old_records,
+                             old_rows, sizeof old_rows);
+    return unused;
+}
+
+static void *widen(void *unused)
+{
+    refusal = cascade_widen(old_records, 4 * variables(), old_rows, made_rows, records, sizeof records, rows, sizeof rows);
+    return unused;
+}
+
 static void *tabulate(void *unused)
 {
     static uint8_t table[CASCADE_TABLE_BYTES];
@@ -148,6 +164,10 @@ int main(void)
     if (refusal != 0 || cascade_bank_new(255, bank, scan) != 0)
         return 0;
     printf("cascade_known %zu\n", used_by(evaluate) - least);
+    printf("cascade_narrow %zu", used_by(narrow) - least);
+    printf(refusal ? " (refusal %u)\n" : "\n", refusal);
+    printf("cascade_widen %zu", used_by(widen) - least);
+    printf(refusal ? " (refusal %u)\n" : "\n", refusal);
     printf("cascade_admit %zu\n", used_by(admit) - least);
     printf("cascade_latch %zu\n", used_by(latch) - least);
     printf("cascade_step %zu\n", used_by(step) - least);

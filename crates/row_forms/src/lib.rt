@@ -1,37 +1,10 @@
 // Moves a stored cascade from one byte a row to two, for panels of today, and back, for old panels (document 02, §7).
+mod narrowing;
+mod widening;
+
 ghost use mathlib.Core.Path.{_≡_};
-ghost use Prim.Native.Nat.{_≤_, _/_};
-ghost use lib.ListN.{length};
-ghost use Rattle.laws.specs.Lists.{written};
-ghost use Rattle.stored_spec.specs.RowBytes.{oneByte, twoBytes, room};
 ghost use Rattle.stored_spec.specs.ReadWrite.{writtenAs};
-ghost use Rattle.row_forms_spec.specs.Moves.{movedRows, widen, narrow};
-
-// Each byte, then 0.
-fn widen_rows(from: &[u8], to: &mut [u8])
-    requires { ⌜ room twoBytes (length (now from)) ≤ length (now to) ⌝ }
-    ensures { λ _. ⌜ now (to .exit) ≡ written (now (to .entry)) 0 (movedRows oneByte twoBytes (now (from .entry))) ⌝ }
-{
-    let mut i = 0;
-    while i < from.len() {
-        to[i * 2] = from[i];
-        to[i * 2 + 1] = 0;
-        i += 1;
-    }
-}
-
-// The low byte of each pair.
-fn narrow_rows(from: &[u8], to: &mut [u8])
-    requires { ⌜ length (now from) / 2 ≤ length (now to) ⌝ }
-    ensures { λ _. ⌜ now (to .exit) ≡ written (now (to .entry)) 0 (movedRows twoBytes oneByte (now (from .entry))) ⌝ }
-{
-    let count = from.len() / 2;
-    let mut i = 0;
-    while i < count {
-        to[i] = from[i * 2];
-        i += 1;
-    }
-}
+ghost use Rattle.row_forms_spec.specs.Moves.{widen, narrow};
 
 // To two bytes a row, from the records and row bytes given to the memories lent: 12, 10 or 11 and nothing is changed, or 0 and both hold the cascade at
 // their front.
@@ -40,18 +13,7 @@ pub fn widen(stored: &[u8], bytes: &[u8], records: &mut [u8], rows: &mut [u8]) -
         ⌜ writtenAs r (now (records .exit)) (now (rows .exit))
         ≡ widen (now (stored .entry)) (now (bytes .entry)) (now (records .entry)) (now (rows .entry)) ⌝ }
 {
-    if stored::one_byte_formed(stored, bytes) {
-        if records.len() < stored.len() {
-            return 10;
-        }
-        if rows.len() / 2 < bytes.len() {
-            return 11;
-        }
-        stored::copy_front(stored, records);
-        widen_rows(bytes, rows);
-        return 0;
-    }
-    12
+    widening::widen(stored, bytes, records, rows)
 }
 
 // To one byte a row: 12, 10, 11 or 15 and nothing is changed, or 0 and both hold the cascade at their front.
@@ -60,21 +22,5 @@ pub fn narrow(stored: &[u8], bytes: &[u8], records: &mut [u8], rows: &mut [u8]) 
         ⌜ writtenAs r (now (records .exit)) (now (rows .exit))
         ≡ narrow (now (stored .entry)) (now (bytes .entry)) (now (records .entry)) (now (rows .entry)) ⌝ }
 {
-    if stored::well_formed(stored, bytes) {
-        if records.len() < stored.len() {
-            return 10;
-        }
-        let short = rows.len() < bytes.len() / 2;
-        let over = !stored::one_byte_fits(stored);
-        if short {
-            return 11;
-        }
-        if over {
-            return 15;
-        }
-        stored::copy_front(stored, records);
-        narrow_rows(bytes, rows);
-        return 0;
-    }
-    12
+    narrowing::narrow(stored, bytes, records, rows)
 }

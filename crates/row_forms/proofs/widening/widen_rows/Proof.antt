@@ -14,8 +14,8 @@ use Rattle.stored_spec.proofs.RowForms.{room-two}
 use Rattle.row_forms_spec.specs.Moves.{movedRows}
 use Rattle.row_forms_spec.proofs.MovedRows.{AreBytes}
 use Rattle.row_forms_spec.proofs.MovedBytes.{wide-low, wide-high, wide-length}
-use Rattle.row_forms.proofs.widen_rows.Statement.{statement}
-use Rattle.row_forms.proofs.widen_rows.Tie as tie
+use Rattle.row_forms.proofs.widening.widen_rows.Statement.{statement}
+use Rattle.row_forms.proofs.widening.widen_rows.Tie as tie
 
 abbrev moved : List ℕ → ℕ → ℕ
 moved from n = getD (movedRows oneByte twoBytes from) n 0

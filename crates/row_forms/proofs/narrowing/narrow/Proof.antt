@@ -21,8 +21,8 @@ use Rattle.stored_spec.proofs.RowForms.{room-one, room-two}
 use Rattle.stored.specs.Reads.{oneByteFits}
 use Rattle.row_forms_spec.specs.Moves.{overEight, narrow}
 use Rattle.row_forms_spec.proofs.MoveAnswers.{gives-12, gives-10, gives-11, gives-15, gives-0, fit-not-over, not-over-fit}
-use Rattle.row_forms.proofs.narrow.Statement.{statement}
-use Rattle.row_forms.proofs.narrow.Tie as tie
+use Rattle.row_forms.proofs.narrowing.narrow.Statement.{statement}
+use Rattle.row_forms.proofs.narrowing.narrow.Tie as tie
 
 module _ (R bytes : List ℕ) (e : wellFormed R bytes ≡ true) where
   -- a byte for each pair

@@ -16,8 +16,8 @@ use Rattle.stored_spec.proofs.ReadWriteCases.{formed-parts}
 use Rattle.stored_spec.proofs.RowForms.{room-one, room-two}
 use Rattle.row_forms_spec.specs.Moves.{widen}
 use Rattle.row_forms_spec.proofs.MoveAnswers.{gives-12, gives-10, gives-11, gives-0}
-use Rattle.row_forms.proofs.widen.Statement.{statement}
-use Rattle.row_forms.proofs.widen.Tie as tie
+use Rattle.row_forms.proofs.widening.widen.Statement.{statement}
+use Rattle.row_forms.proofs.widening.widen.Tie as tie
 
 -- two bytes for each of the bytes
 wanted : (R bytes : List ℕ) → wellFormedAs oneByte R bytes ≡ true → room twoBytes (rowCount R) ≡ room twoBytes (length bytes)

@@ -13,8 +13,8 @@ use Rattle.stored_spec.specs.RowBytes.{oneByte, twoBytes}
 use Rattle.row_forms_spec.specs.Moves.{movedRows}
 use Rattle.row_forms_spec.proofs.MovedRows.{AreBytes}
 use Rattle.row_forms_spec.proofs.MovedBytes.{slim-byte, slim-length}
-use Rattle.row_forms.proofs.narrow_rows.Statement.{statement}
-use Rattle.row_forms.proofs.narrow_rows.Tie as tie
+use Rattle.row_forms.proofs.narrowing.narrow_rows.Statement.{statement}
+use Rattle.row_forms.proofs.narrowing.narrow_rows.Tie as tie
 
 abbrev moved : List ℕ → ℕ → ℕ
 moved from n = getD (movedRows twoBytes oneByte from) n 0
