@@ -5,6 +5,7 @@
 #include "cascade.h"
 
 #include <stdio.h>
+#include <stdlib.h>
 
 static uint16_t nodes[CASCADE_NODE_WORDS];
 static uint8_t records[CASCADE_RECORD_BYTES];
@@ -26,6 +27,19 @@ static cascade_totals compile(FILE *file)
     size_t to = length < end ? length : end;
     return cascade_compile(inputs, outputs, bytes[2], bytes[3], bytes + from, to - from, bytes + to, length - to,
                            nodes, CASCADE_NODE_WORDS, records, CASCADE_RECORD_BYTES, rows, CASCADE_ROW_BYTES, widths);
+}
+
+/* The same, of the file with that name; where it can't be opened the program ends. */
+static inline cascade_totals compile_named(const char *name)
+{
+    FILE *file = fopen(name, "rb");
+    if (file == NULL) {
+        perror(name);
+        exit(1);
+    }
+    cascade_totals made = compile(file);
+    fclose(file);
+    return made;
 }
 
 #endif

@@ -4,23 +4,14 @@
  * Run:   ./known examples/basket.job 7fe 2ae */
 #include "job.h"
 
-#include <stdlib.h>
-
 int main(int argc, char **argv)
 {
     uint8_t certain[CASCADE_OUTPUTS];
-    FILE *file;
     if (argc != 4) {
         fprintf(stderr, "known JOB KNOWN WORD (mask and word in base 16)\n");
         return 2;
     }
-    file = fopen(argv[1], "rb");
-    if (file == NULL) {
-        perror(argv[1]);
-        return 1;
-    }
-    cascade_totals made = compile(file);
-    fclose(file);
+    cascade_totals made = compile_named(argv[1]);
     if (made.refusal != 0) {
         printf("refused %u\n", (unsigned)made.refusal);
         return 1;

@@ -28,18 +28,11 @@ static void print_block(const uint8_t *block, size_t length, const uint8_t *bloc
 
 int main(int argc, char **argv)
 {
-    FILE *file;
     if (argc != 2) {
         fprintf(stderr, "move JOB\n");
         return 2;
     }
-    file = fopen(argv[1], "rb");
-    if (file == NULL) {
-        perror(argv[1]);
-        return 1;
-    }
-    cascade_totals made = compile(file);
-    fclose(file);
+    cascade_totals made = compile_named(argv[1]);
     size_t length = 4 * (inputs + outputs);
     size_t count = made.rows;
     uint8_t refusal = made.refusal;

@@ -4,8 +4,6 @@
  * Run:   ./scan examples/table1.job 000d examples/basket.job 0217 */
 #include "job.h"
 
-#include <stdlib.h>
-
 #define JOBS 2
 #define SCAN_LIMIT 255
 
@@ -16,13 +14,7 @@ static uint8_t held_rows[CASCADE_ROW_BYTES];
 /* Compiles the job in the file and admits its cascade; 0 where either is refused. */
 static int admit(const char *name)
 {
-    FILE *file = fopen(name, "rb");
-    if (file == NULL) {
-        perror(name);
-        return 0;
-    }
-    cascade_totals made = compile(file);
-    fclose(file);
+    cascade_totals made = compile_named(name);
     if (made.refusal != 0) {
         printf("%s: refused %u\n", name, (unsigned)made.refusal);
         return 0;
