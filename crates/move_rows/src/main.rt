@@ -193,13 +193,38 @@ fn say_text(up: bool, text: &[u8]) {
     }
 }
 
-// Both names begin with their own letter, w or n, and nothing else is asked of the line.
+fn same(a: &[u8], b: &[u8]) -> bool {
+    let mut alike = a.len() == b.len();
+    let mut i = 0;
+    while i < a.len() {
+        alike = alike & (byte_at(a, i) == byte_at(b, i));
+        i += 1;
+    }
+    alike
+}
+
+fn run(way: &[u8], text: &[u8]) {
+    if same(way, b"widen") {
+        say_text(true, text);
+        return;
+    }
+    if same(way, b"narrow") {
+        say_text(false, text);
+        return;
+    }
+    say(b"the first line is widen or narrow\n");
+}
+
+// The first line, and the list after it.
+fn run_input(input: &[u8]) {
+    let end = least(call_text::line_end(input), input.len());
+    let from = least(end + 1, input.len());
+    run(&input[..end], &input[from..]);
+}
+
+// Of a list too long for the buffer nothing is printed, so what lies past the buffer does not matter.
 fn main() {
     let mut buf = io::large_buffer();
     let n = io::read_full(0, &mut buf);
-    let text = &buf[..n];
-    let end = call_text::line_end(text);
-    if end < text.len() {
-        say_text(byte_at(text, 0) == 119, &text[end + 1..]);
-    }
+    run_input(&buf[..n]);
 }
