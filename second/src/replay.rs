@@ -23,7 +23,7 @@ struct Held {
 }
 
 /// A call as a line says it.
-enum Line {
+pub(crate) enum Line {
     Nothing,
     Bank(u64),
     Admit(Vec<u8>, Vec<u8>),
@@ -49,7 +49,7 @@ fn digits(text: &[u8]) -> Option<u32> {
 }
 
 /// Two digits in base 16 for each byte, or `-` for none.
-pub(crate) fn bytes(text: &[u8]) -> Option<Vec<u8>> {
+fn bytes(text: &[u8]) -> Option<Vec<u8>> {
     if text == b"-" {
         return Some(Vec::new());
     }
@@ -69,7 +69,8 @@ fn word(text: &[u8]) -> Option<u16> {
     digits(text).map(|word| word as u16)
 }
 
-fn read_line(line: &[u8]) -> Option<Line> {
+/// A line after the first; None for one that can't be read.
+pub(crate) fn read_line(line: &[u8]) -> Option<Line> {
     if line.is_empty() || line[0] == b'#' {
         return Some(Line::Nothing);
     }

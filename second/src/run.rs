@@ -5,7 +5,7 @@ use std::io::Write;
 use std::process::{Command, Stdio};
 
 /// What a program prints on this input; it must end with exit status 0.
-pub fn output_of(program: impl AsRef<OsStr>, arguments: &[&str], input: &[u8]) -> String {
+pub fn bytes_of(program: impl AsRef<OsStr>, arguments: &[&str], input: &[u8]) -> Vec<u8> {
     let mut child = Command::new(program)
         .args(arguments)
         .stdin(Stdio::piped())
@@ -18,5 +18,10 @@ pub fn output_of(program: impl AsRef<OsStr>, arguments: &[&str], input: &[u8]) -
     drop(stdin);
     let output = child.wait_with_output().expect("the program ends");
     assert!(output.status.success(), "{:?}", output.status);
-    String::from_utf8(output.stdout).expect("text")
+    output.stdout
+}
+
+/// The same of a program that prints text.
+pub fn output_of(program: impl AsRef<OsStr>, arguments: &[&str], input: &[u8]) -> String {
+    String::from_utf8(bytes_of(program, arguments, input)).expect("text")
 }

@@ -1,5 +1,9 @@
-//! Writes random small jobs, lists of bank calls and damaged states as equations of the Rattle definitions, each with what the
-//! second compiler, bank and book say: `second_equations FOLDER SEED JOBS LISTS STATES`. The folder becomes the files of a crate.
+//! Writes random small jobs, lists of bank calls, damaged states and moves between one-byte and two-byte rows as equations of the
+//! Rattle definitions, each with what the second compiler, bank, book and moves say: `second_equations FOLDER SEED JOBS LISTS STATES
+//! [MOVES]`, with no moves where their number is not given. The folder becomes the files of a crate.
+
+#[path = "second_equations/moves.rs"]
+mod moves;
 
 use second::bank::{admit, latch, new_bank, step, Bank, Scan, Step, NOT_SET};
 use second::book::{Book, Call, Outputs, Said};
@@ -232,7 +236,12 @@ use Rattle.bank_spec.specs.CallLists.{admission, latching, stepping, Entry, tra
 ";
 
 /// Writes the equations as proof files, and their names for the crate's list of modules.
-fn write(folder: &Path, name: &str, head: &str, equations: &[String]) -> io::Result<Vec<String>> {
+fn write(
+    folder: &Path,
+    name: &str,
+    (head, opened): (&str, &str),
+    equations: &[String],
+) -> io::Result<Vec<String>> {
     let mut names = Vec::new();
     for (place, part) in equations.chunks(EQUATIONS_PER_FILE).enumerate() {
         let module = format!("{name}{place}");
@@ -240,7 +249,7 @@ fn write(folder: &Path, name: &str, head: &str, equations: &[String]) -> io::Res
         for (i, equation) in part.iter().enumerate() {
             let _ = write!(
                 text,
-                "\npub e{i} : {equation}\nunfolding sheetOpened reductionOpened cuttingOpened bankOpened\ne{i} = refl\n"
+                "\npub e{i} : {equation}\nunfolding sheetOpened reductionOpened cuttingOpened bankOpened{opened}\ne{i} = refl\n"
             );
         }
         fs::write(folder.join(format!("proofs/{module}.antt")), text)?;
@@ -284,7 +293,8 @@ fn job_equations(seed: u64, wanted: usize) -> (Vec<String>, BTreeMap<String, usi
     (equations, kinds)
 }
 
-fn run(folder: &Path, seed: u64, jobs: usize, lists: usize, states: usize) -> io::Result<()> {
+fn run(folder: &Path, seed: u64, counts: [usize; 4]) -> io::Result<()> {
+    let [jobs, lists, states, moves] = counts;
     fs::create_dir_all(folder.join("src"))?;
     fs::create_dir_all(folder.join("proofs"))?;
     fs::write(folder.join("src/lib.rt"), "// Equations alone.\n")?;
@@ -302,27 +312,32 @@ fn run(folder: &Path, seed: u64, jobs: usize, lists: usize, states: usize) -> io
     println!("{lists} lists of calls, each of bank and book");
     let formed = damaged.iter().filter(|e| e.ends_with("true")).count();
     println!("{states} states, {formed} of them well formed");
-    let mut names = write(folder, "Jobs", COMPILER, &compiled)?;
-    names.extend(write(folder, "Lists", BANK, &called)?);
-    names.extend(write(folder, "States", BANK, &damaged)?);
+    let (moved, kinds) = moves::equations(seed, moves);
+    if moves > 0 {
+        println!("{} moves: {kinds:?}", moved.len());
+    }
+    let mut names = write(folder, "Jobs", (COMPILER, ""), &compiled)?;
+    names.extend(write(folder, "Lists", (BANK, ""), &called)?);
+    names.extend(write(folder, "States", (BANK, ""), &damaged)?);
+    let opened = (moves::HEAD, moves::OPENED);
+    names.extend(write(folder, "Moves", opened, &moved)?);
     let modules: String = names.iter().map(|n| format!("pub mod {n}\n")).collect();
     fs::write(folder.join("proofs/Lib.antt"), modules)
 }
 
 fn main() -> ExitCode {
     let arguments: Vec<String> = env::args().skip(1).collect();
-    let numbers: Vec<u64> = arguments.iter().skip(1).flat_map(|a| a.parse()).collect();
-    let (Some(folder), &[seed, jobs, lists, states]) = (arguments.first(), &numbers[..]) else {
-        eprintln!("second_equations FOLDER SEED JOBS LISTS STATES");
+    let mut numbers: Vec<u64> = arguments.iter().skip(1).flat_map(|a| a.parse()).collect();
+    if arguments.len() == 5 {
+        numbers.push(0);
+    }
+    let (Some(folder), &[seed, jobs, lists, states, moves]) = (arguments.first(), &numbers[..])
+    else {
+        eprintln!("second_equations FOLDER SEED JOBS LISTS STATES [MOVES]");
         return ExitCode::from(2);
     };
-    match run(
-        Path::new(folder),
-        seed,
-        jobs as usize,
-        lists as usize,
-        states as usize,
-    ) {
+    let counts = [jobs, lists, states, moves].map(|count| count as usize);
+    match run(Path::new(folder), seed, counts) {
         Ok(()) => ExitCode::SUCCESS,
         Err(error) => {
             eprintln!("{error}");

@@ -1,7 +1,7 @@
 //! Prints the list of bank calls on standard input with the rows of its blocks moved, as `second::move_text` says. Argument: `widen`
 //! or `narrow`.
 
-use second::move_text::printed;
+use second::move_text::{printed, TEXT_BYTES};
 use second::moves::Way;
 use std::io::{self, Read, Write};
 use std::process::ExitCode;
@@ -14,7 +14,9 @@ fn main() -> ExitCode {
         return ExitCode::from(2);
     };
     let mut text = Vec::new();
-    if io::stdin().lock().read_to_end(&mut text).is_err() {
+    // A byte over the limit is enough to tell.
+    let mut input = io::stdin().lock().take(TEXT_BYTES as u64 + 1);
+    if input.read_to_end(&mut text).is_err() {
         return ExitCode::FAILURE;
     }
     match io::stdout().lock().write_all(&printed(&text, way)) {

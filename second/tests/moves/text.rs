@@ -28,11 +28,17 @@ fn both(way: Way, text: &[u8]) -> String {
     output
 }
 
+fn latch(words: [u16; 8]) -> String {
+    let words = words.map(|word| format!("{word:04x}"));
+    format!("latch {}", words.join(" "))
+}
+
 /// Case A's block twice, a scan, and lines that stay.
 fn list(memory: usize, admit: &str) -> String {
     format!(
         "memory {memory}\n# memory 5\n\nbank 4\n{admit}\nlatch 000d fffD 0000 0000 0000 0000 0000 ffff\nstep\n\
-         {admit}\nadmit\nadmits - -\n admit - -\nmemory 7\nmemory x\nstep \r\nlast\n"
+         {admit}\n#admit - -\nbank 00000\n#\n\n\nbank 65535\n# \r\nlatch {0} {0} {0} {0} {0} {0} {0} {0}\nstep\n",
+        "aBcD"
     )
 }
 
@@ -51,10 +57,10 @@ fn table_1() {
     assert_eq!(both(Way::Widen, wide.as_bytes()), refused);
     let refused = list(16, "refused 12");
     assert_eq!(both(Way::Narrow, narrow.as_bytes()), refused);
-    // Bytes that are no text stay, too.
+    // Bytes of a remark that are no text stay, too.
     assert_eq!(
-        printed(b"memory 1\n\xFF\xFE\nadmit - -\nstep", Way::Widen),
-        b"memory 2\n\xFF\xFE\nrefused 12\nstep\n"
+        printed(b"memory 1\n#\xFF\xFE\nadmit - -\nstep", Way::Widen),
+        b"memory 2\n#\xFF\xFE\nrefused 12\nstep\n"
     );
 }
 
@@ -118,80 +124,142 @@ fn first_lines() {
 
 #[test]
 fn lines_that_cannot_be_read() {
-    for words in [
+    let admissions = [
         "", " ", "-", "- ", " -", "- - ", "-  -", " - -", "- - -", "-- -", "- --", "0 -", "- 0",
         "000 -", "0g -", "- g0", "-0 -", "00 00\r", "00 0x", "00,00", "00 00 00", "+1 00", "é -",
-    ] {
+    ];
+    let mut lines: Vec<String> = admissions.map(|words| format!("admit {words}")).to_vec();
+    let seven = "0000 ".repeat(7);
+    lines.extend(
+        ["", "000", "00000", "000g", "0000 ", "0000 0000"].map(|w| format!("latch {seven}{w}")),
+    );
+    lines.extend(["", "65536", "000001", "1 ", " 1", "-1", "x"].map(|n| format!("bank {n}")));
+    lines.extend(
+        [
+            "admit",
+            "admits - -",
+            " admit - -",
+            "Admit - -",
+            "memory 7",
+            "memory x",
+            "step ",
+            "step \r",
+            "step\r",
+            "steps",
+            "STEP",
+            " ",
+            " #",
+            " step",
+            "\r",
+            "last",
+            "bank",
+            "latch",
+            "refused 12",
+            "refused 15",
+            "ok",
+            "line 3: not understood",
+            "widen",
+            "narrow",
+        ]
+        .map(String::from),
+    );
+    for line in lines {
         for way in Way::ALL {
-            let text = format!("memory 2\nadmit 00 00\nadmit {words}\nadmit 00 00\n");
+            let text = format!("memory 2\nadmit 00 00\n{line}\nadmit 00 00\nx\n");
             let memory = way.row_bytes(2);
             let expected = format!("memory {memory}\nrefused 12\nline 3: not understood\n");
-            assert_eq!(both(way, text.as_bytes()), expected, "{words:?}");
+            assert_eq!(both(way, text.as_bytes()), expected, "{line:?}");
+            let text = format!("memory 2\n\n#\nstep\n{line}");
+            let expected = format!("memory {memory}\n\n#\nstep\nline 5: not understood\n");
+            assert_eq!(both(way, text.as_bytes()), expected, "{line:?}");
+        }
+    }
+    for way in Way::ALL {
+        let memory = way.row_bytes(2);
+        let expected = format!("memory {memory}\nline 2: not understood\n");
+        assert_eq!(printed(b"memory 2\n\xFF\nstep\n", way), expected.as_bytes());
+        assert_eq!(printed(b"memory 2\nstep\0\n", way), expected.as_bytes());
+    }
+}
+
+/// Up to 65,528 bytes are read, whatever they hold; a final newline counts.
+#[test]
+fn long_texts() {
+    for (length, read) in [
+        (65_527, true),
+        (65_528, true),
+        (65_529, false),
+        (65_530, false),
+        (65_536, false),
+        (200_000, false),
+    ] {
+        for way in Way::ALL {
+            let check = |text: &str, expected: String| {
+                assert_eq!(text.len(), length);
+                let over = "input over 65528 bytes\n".to_string();
+                let expected = if read { expected } else { over };
+                assert_eq!(both(way, text.as_bytes()), expected);
+            };
+            let memory = format!("memory {}\n", way.row_bytes(7));
+            for last in ["\n", "x"] {
+                let remark = format!("#{}{last}", "x".repeat(length - 11));
+                let expected = format!("{memory}{}\n", remark.trim_end());
+                check(&format!("memory 7\n{remark}"), expected);
+            }
+            let zeros = "0".repeat(length - 19);
+            let expected = match zeros.len() % 2 {
+                0 => format!("{memory}refused 12\n"),
+                _ => format!("{memory}line 2: not understood\n"),
+            };
+            check(&format!("memory 7\nadmit 00 {zeros}\n"), expected);
+            check(&"x".repeat(length), "line 1: not understood\n".to_string());
         }
     }
 }
 
-/// Up to 65,535 bytes are read, whatever they hold.
-#[test]
-fn long_lines() {
-    for (records, rows, read) in [
-        (65_535, 1, true),
-        (65_536, 1, false),
-        (1, 65_535, true),
-        (1, 65_536, false),
-        (65_535, 65_535, true),
-        (0, 65_536, false),
-    ] {
-        let line = admit(&vec![0; records], &vec![0; rows]);
-        let expected = match read {
-            true => "memory 2\nrefused 12\n",
-            false => "memory 2\nline 2: not understood\n",
-        };
-        let text = format!("memory 1\n{line}");
-        assert_eq!(both(Way::Widen, text.as_bytes()), expected);
-    }
-}
-
-/// Lists of the generator, narrowed and widened again: an admission stays, or is refused as the block is.
+/// Lists of the generator: an admission is moved, or refused as the block is. Without the refused ones, the list narrowed and widened
+/// again is the list.
 #[test]
 fn lists_back_and_up() {
     let (mut kept, mut refused) = (0, 0);
     for index in 0..400 {
         let blocks: Vec<StoredBlock> = (6 * index..6 * index + 6)
             .map(|place| block(SEED, place))
-            .filter(|(_, rows)| rows.len() <= 2_000)
+            .filter(|(_, rows)| rows.len() <= 1_000)
             .collect();
         let (limit, memory, list) = calls(SEED, index, &blocks);
-        let mut text = format!("memory {}\nbank {limit}\n", memory.min(65_536) / 2 * 2);
-        let mut expected = text.clone();
+        let memory = memory.min(65_536) / 2;
+        let head = |memory: usize| format!("memory {memory}\nbank {limit}\n");
+        let (mut text, mut expected) = (head(2 * memory), head(memory));
+        let mut movable = text.clone();
         for call in list {
-            let (line, refusal) = match call {
+            let (line, line_after) = match call {
                 Call::Admit { records, rows } => {
                     let line = admit(&records, &rows);
-                    (line, moved(Way::Narrow, &(records, rows)).err())
+                    let after = moved(Way::Narrow, &(records, rows));
+                    (line, after.map(|(records, rows)| admit(&records, &rows)))
                 }
-                Call::Latch(words) => {
-                    let words = words.map(|word| format!("{word:04x}"));
-                    (format!("latch {}", words.join(" ")), None)
-                }
-                Call::Step => ("step".to_string(), None),
+                Call::Latch(words) => (latch(words), Ok(latch(words))),
+                Call::Step => ("step".to_string(), Ok("step".to_string())),
             };
             text += &format!("{line}\n");
-            match refusal {
-                Some(number) => {
+            match line_after {
+                Err(number) => {
                     refused += 1;
                     expected += &format!("refused {number}\n");
                 }
-                None => {
+                Ok(after) => {
                     kept += u32::from(line.starts_with("admit"));
-                    expected += &format!("{line}\n");
+                    expected += &format!("{after}\n");
+                    movable += &format!("{line}\n");
                 }
             }
         }
-        let narrow = printed(text.as_bytes(), Way::Narrow);
-        assert_eq!(both(Way::Widen, &narrow), expected);
+        assert_eq!(both(Way::Narrow, text.as_bytes()), expected);
+        let narrow = both(Way::Narrow, movable.as_bytes());
+        assert_eq!(both(Way::Widen, narrow.as_bytes()), movable);
     }
-    println!("{kept} admissions kept, {refused} refused");
+    println!("{kept} admissions moved, {refused} refused");
     assert!(kept > 200 && refused > 200, "{kept} {refused}");
 }
 

@@ -1,0 +1,296 @@
+//! The proved program that moves the rows of a list of calls against the second one: every byte that both print of the same text. The
+//! lists are made in the folder beside.
+
+#[path = "move_rows/lists.rs"]
+mod lists;
+
+use lists::{digits, list, respelt, text, Kind, BAD_LINES, BAD_MEMORY};
+use second::cases;
+use second::generate::{compiled, low_bytes, Random};
+use second::move_text::{printed, TEXT_BYTES};
+use second::moves::Way;
+use second::run::bytes_of;
+use std::collections::BTreeMap;
+use std::path::PathBuf;
+
+const SEED: u64 = 7177;
+
+/// What the proved program prints; it reads the way as a line before the text.
+fn proved(way: Way, text: &[u8]) -> Vec<u8> {
+    let program = PathBuf::from(env!("CARGO_MANIFEST_DIR")).join("../../target/bin/move_rows");
+    let input = [way.name().as_bytes(), b"\n", text].concat();
+    bytes_of(program, &[], &input)
+}
+
+/// The texts compared, and how often each kind of line was printed.
+#[derive(Default, Debug)]
+struct Seen {
+    texts: u64,
+    lines: BTreeMap<String, u64>,
+}
+
+impl Seen {
+    fn add(&mut self, output: &[u8]) {
+        self.texts += 1;
+        for line in output.split_inclusive(|&byte| byte == b'\n') {
+            let line = String::from_utf8_lossy(line.trim_ascii_end());
+            let kind = match line.split(' ').next().unwrap_or_default() {
+                _ if line.starts_with("refused") => &line[..],
+                "" => "empty",
+                word if word.starts_with('#') => "#",
+                word => word,
+            };
+            *self.lines.entry(kind.to_string()).or_default() += 1;
+        }
+    }
+
+    fn compare(&mut self, way: Way, text: &[u8]) {
+        let output = proved(way, text);
+        let same = output == printed(text, way);
+        assert!(same, "{way:?} {:?}", String::from_utf8_lossy(text));
+        self.add(&output);
+    }
+
+    fn both_ways(&mut self, text: &[u8]) {
+        Way::ALL.into_iter().for_each(|way| self.compare(way, text));
+    }
+}
+
+/// Each list goes its way, in the program's spelling or in others, and one in five the other way, too.
+#[test]
+fn lists_of_calls() {
+    let mut seen = Seen::default();
+    let mut random = Random::new(1, SEED, 0);
+    let mut longest = 0;
+    for (way, index) in Way::ALL
+        .into_iter()
+        .flat_map(|way| (0..650).map(move |index| (way, index)))
+    {
+        let lines = list(way, Kind::Any, index);
+        let text = match random.coin() {
+            true => text(&lines),
+            false => respelt(&mut random, &lines),
+        };
+        match random.below(5) {
+            0 => seen.both_ways(&text),
+            _ => seen.compare(way, &text),
+        }
+        longest = longest.max(printed(&text, way).len());
+    }
+    println!("lists, at most {longest} bytes printed: {seen:?}");
+    assert!(seen.texts >= 1_500 && longest > 100_000);
+    for (kind, least) in [
+        ("admit", 2_000),
+        ("refused 12", 1_000),
+        ("refused 15", 200),
+        ("line", 100),
+        ("input", 20),
+        ("#", 500),
+        ("empty", 200),
+    ] {
+        assert!(seen.lines[kind] > least, "{kind} {seen:?}");
+    }
+}
+
+/// By the proved program alone: lists whose blocks can all be moved, there and back, in whatever spelling they begin.
+#[test]
+fn there_and_back() {
+    let mut seen = Seen::default();
+    let mut random = Random::new(2, SEED, 0);
+    for (way, back) in [(Way::Narrow, Way::Widen), (Way::Widen, Way::Narrow)] {
+        for index in 0..350 {
+            let lines = list(way, Kind::Movable, 10_000 + index);
+            let whole = text(&lines);
+            let first = match random.coin() {
+                true => whole.clone(),
+                false => respelt(&mut random, &lines),
+            };
+            let there = proved(way, &first);
+            assert!(there == printed(&first, way), "{whole:?}");
+            let again = proved(back, &there);
+            assert!(again == whole, "{:?}", String::from_utf8_lossy(&whole));
+            seen.add(&there);
+            seen.add(&again);
+        }
+    }
+    println!("there and back: {seen:?}");
+    assert!(seen.texts >= 1_400 && seen.lines["admit"] > 2_000);
+    let kinds = ["#", "admit", "bank", "empty", "latch", "memory", "step"];
+    assert!(seen.lines.keys().all(|kind| kinds.contains(&&kind[..])));
+}
+
+/// Texts with bytes changed, put in or left out; half of them with changed digits alone, so that blocks are spoilt.
+#[test]
+fn spoilt_texts() {
+    let mut seen = Seen::default();
+    let mut random = Random::new(3, SEED, 0);
+    for (way, index) in Way::ALL
+        .into_iter()
+        .flat_map(|way| (0..350).map(move |index| (way, 20_000 + index)))
+    {
+        let mut text = text(&list(way, Kind::Movable, index));
+        for _ in 0..random.within(1, 3) {
+            let place = random.below(text.len());
+            if index % 2 == 0 {
+                if text[place].is_ascii_hexdigit() {
+                    text[place] = random.pick(b"0123456789abcdefABCDEF");
+                }
+                continue;
+            }
+            match random.below(5) {
+                0 => text[place] = random.byte(),
+                1 => text[place] = random.pick(b" \n#-09afgAF:/`@G"),
+                2 => text.insert(place, random.pick(b" \n#-09afg")),
+                3 => {
+                    text.remove(place);
+                }
+                _ => text.truncate(place + 1),
+            }
+        }
+        seen.compare(way, &text);
+    }
+    println!("spoilt: {seen:?}");
+    assert!(seen.lines["line"] > 100 && seen.lines["refused 12"] > 100);
+}
+
+/// Every line that the form allows or nearly allows, and every byte in some places of one.
+#[test]
+fn single_lines() {
+    let mut seen = Seen::default();
+    let zeros = "0000 ".repeat(7);
+    let mut tried: Vec<String> = ["", "#", "# x", "step", "-", "0"].map(String::from).into();
+    tried.extend(BAD_LINES.iter().chain(&BAD_MEMORY).map(|&s| s.into()));
+    for number in ["0", "1", "00001", "255", "256", "65535", "99999", "-1", "a"] {
+        tried.push(format!("bank {number}"));
+    }
+    for bytes in ["", "-", "--", "0", "00", "000", "0g", "fF", "- -", "00 "] {
+        tried.push(format!("admit {bytes}"));
+        for other in ["", "-", "00", "0", "0G", "Ff", "00 00"] {
+            tried.push(format!("admit {bytes} {other}"));
+        }
+    }
+    for word in ["", "0", "0000", "fFfF", "00000", "000g", "0000 ", "00:0"] {
+        tried.push(format!("latch {zeros}{word}"));
+        tried.push(format!("latch {word} {}", zeros.trim_end()));
+    }
+    for line in &tried {
+        seen.both_ways(format!("memory 9\nbank 9\n{line}\nstep\n").as_bytes());
+        seen.both_ways(format!("memory 9\n{line}").as_bytes());
+    }
+    for memory in [
+        "0", "1", "2", "9", "00009", "32767", "32768", "32769", "65534", "65535", "65536", "65537",
+    ] {
+        for end in ["", "\n", "\n\n", "\nbank 1", "\nbank 1\n", "\nx", "\n\n\n"] {
+            seen.both_ways(format!("memory {memory}{end}").as_bytes());
+        }
+    }
+    for line in &BAD_MEMORY {
+        for end in ["", "\n", "\nbank 1\n"] {
+            seen.both_ways(format!("{line}{end}").as_bytes());
+        }
+    }
+    for byte in 0..=255 {
+        let byte = [byte];
+        for (before, after) in [
+            ("memory 9\n", "\nstep\n"),
+            ("memory 9\nadmit 0", " -\n"),
+            ("memory ", "\n"),
+        ] {
+            let text = [before.as_bytes(), &byte, after.as_bytes()].concat();
+            seen.compare(Way::ALL[usize::from(byte[0] % 2)], &text);
+        }
+    }
+    println!("{} lines, and others: {seen:?}", tried.len());
+}
+
+/// Case A's list, of either form, broken off at each of its bytes.
+#[test]
+fn broken_off() {
+    let mut seen = Seen::default();
+    let (records, wide) = compiled(&cases::a()).expect("accepted");
+    for (way, memory, rows) in [
+        (Way::Narrow, 64, wide.clone()),
+        (Way::Widen, 32, low_bytes(&wide)),
+    ] {
+        let block = format!("{} {}", digits(&records), digits(&rows));
+        let text = format!(
+            "memory {memory}\n# a remark\n\nbank 4\nadmit {block}\nlatch{}\nstep\n\nadmit - -\n",
+            " 00Fd".repeat(8)
+        );
+        for end in 0..=text.len() {
+            seen.compare(way, &text.as_bytes()[..end]);
+        }
+    }
+    println!("broken off: {seen:?}");
+}
+
+/// As many row bytes to be widened as a text holds.
+#[test]
+fn most_bytes_printed() {
+    let mut seen = Seen::default();
+    // x1 to x12 and y1 in a cell, and x1 to x6 and y1 in a cell.
+    let cell = |inputs: u8| {
+        let mut records: Vec<u8> = (0..inputs).flat_map(|x| [x, 0, 0, 0]).collect();
+        records.extend([128, 1, 0, 0]);
+        let line =
+            |rows: &str| format!("admit {} {}\n", digits(&records), rows.repeat(1 << inputs));
+        (line("01"), line("0100"))
+    };
+    let (mut narrow, mut wide) = ("memory 32768\n".to_string(), "memory 65536\n".to_string());
+    for (one_byte, two_bytes) in [12, 6].map(cell) {
+        while narrow.len() + one_byte.len() < TEXT_BYTES {
+            narrow += &one_byte;
+            wide += &two_bytes;
+        }
+    }
+    let remark = "#".repeat(TEXT_BYTES - narrow.len());
+    narrow += &remark;
+    wide += &format!("{remark}\n");
+    seen.compare(Way::Widen, narrow.as_bytes());
+    assert!(proved(Way::Widen, narrow.as_bytes()) == wide.as_bytes());
+    println!("{} bytes printed: {seen:?}", wide.len());
+    assert!(wide.len() > 125_000);
+}
+
+/// Around the longest text: a remark, many lines, an admission, and first lines that can't be read.
+#[test]
+fn long_texts() {
+    let mut seen = Seen::default();
+    let filled = |head: &str, with: &str, length: usize| -> Vec<u8> {
+        let rest = with.bytes().cycle();
+        head.bytes().chain(rest).take(length).collect()
+    };
+    for length in [
+        TEXT_BYTES - 2,
+        TEXT_BYTES - 1,
+        TEXT_BYTES,
+        TEXT_BYTES + 1,
+        TEXT_BYTES + 2,
+        65_535,
+        65_536,
+        65_537,
+        70_000,
+        131_072,
+        1_000_000,
+    ] {
+        for (head, with) in [
+            ("memory 8\n#", "x"),
+            ("memory 8\nbank 1\n", "step\n"),
+            ("memory 8\n", "\n"),
+            ("memory 8\nadmit 00000000 ", "0"),
+            ("memory 8\nadmit ", "aF"),
+            ("memory 8\n", "admit - -\n"),
+            ("memory 8\nlatch", " 0000"),
+            ("memory 0", "0"),
+            ("", "\n"),
+        ] {
+            let mut text = filled(head, with, length);
+            seen.both_ways(&text);
+            text.pop();
+            text.push(b'\n');
+            seen.both_ways(&text);
+        }
+    }
+    println!("long: {seen:?}");
+    assert!(seen.lines["input"] > 100);
+}
