@@ -10,7 +10,7 @@ use native.Mathlib.Nat.{not-suc-le-zero}
 use native.Mathlib.Numerals.{add-one}
 use native.Mathlib.Omega.{arith}
 use lib.Dec.{eqb, leb, ltb}
-use lib.ListN.{length, getD, length-append, length-map, List·getD-append}
+use lib.ListN.{length, getD, replicate, length-append, length-map, List·getD-append}
 use lib.Seq.{getD-at}
 use borrow.Author.Tests.{eqb-true, ltb-false, leb-false}
 use Rattle.laws.specs.Tests.{sum}
@@ -23,6 +23,7 @@ use Rattle.stored_spec.specs.RowBytes.{twoBytes, room}
 use Rattle.bank_spec.specs.Book.{Block, Book, newBook, noBlock, blockAt, cellsIn, rowsIn, bookRefusal, wiped, entered, bookAdmit, bookLatch, bookStep}
 use Rattle.bank_spec.specs.CallLists.{Call, admission, latching, stepping, bookCall, bookAfter}
 use Rattle.bank_spec.specs.Demand3.{CompiledBy, SetAllowed}
+use Rattle.bank_spec.proofs.CallLists.{steps-after}
 use Rattle.bank_spec.proofs.Scans.{readIn, stepped, scan-over, rest-keeps}
 use Rattle.laws.proofs.Parts.{map-at}
 use Rattle.bank_spec.proofs.LatchKeeps.{Kept, kept-cells, latch-kept, latch-length, stepped-kept, stepped-length, scanned-at}
@@ -195,6 +196,15 @@ new-sound S =
       formed = λ b l. absurd (not-suc-le-zero l);
       shape = inl (record { none = refl; ran = λ b l. absurd (not-suc-le-zero l) });
     }
+
+-- after a latch of the words ws and s steps: what a run over as many cells of block b as are among the first s sets
+pub scan-outputs : (S m : ℕ) (k : Book) (ws : List ℕ) (s b : ℕ) → s ≤ cellsIn (k .blocks) → b < length (k .blocks)
+    → blockAt (bookAfter S m k (latching ws ∷ replicate s stepping) .blocks) b .outputs
+    ≡ run (blockAt (k .blocks) b .records) (blockAt (k .blocks) b .rows) (getD ws b 0) (readIn (k .blocks) s b) .outputs
+unfolding bookAfter bookCall
+scan-outputs S m k ws s b l h =
+    ap (λ (x : Book). blockAt (x .blocks) b .outputs) (steps-after S m s (bookLatch k ws .state))
+    ∙ ap (λ (x : Block). x .outputs) (scanned-at k ws s b l h)
 
 module _ (S m : ℕ) (calls : List Call) where
   pub book-sound : Sound S (bookAfter S m newBook calls)

@@ -4,10 +4,12 @@
 use mathlib.Core.Path.{_≡_, _∙_, ap, ap₂}
 use mathlib.Core.Bool.{true, false, _||_}
 use mathlib.Core.List.{List}
-use Prim.Native.Nat.{ℕ, _+_, _<_, _≤_}
+use Prim.Native.Nat.{ℕ, _+_, _-_, _<_, _≤_, min}
+use native.Mathlib.Nat.{min-le-right}
 use native.Mathlib.Omega.{arith}
 use lib.Dec.{leb, ltb}
-use lib.ListN.{length}
+use lib.ListN.{length, getD}
+use Rattle.laws.specs.Tests.{sum}
 use Rattle.laws.proofs.Cases.{cond-both}
 use Rattle.sheet_spec.specs.Job.{Job}
 use Rattle.stored_spec.specs.RowBytes.{oneByte, twoBytes, room}
@@ -19,7 +21,7 @@ use Rattle.row_forms_spec.proofs.Promises.{gives-0, none-over, recordsLeft, row
 use Rattle.bank_spec.specs.Book.{Block, newBook, blockAt, cellsIn, rowsIn, bookRefusal}
 use Rattle.bank_spec.specs.CallLists.{bookAfter}
 use Rattle.bank_spec.specs.Demand3.{CompiledBy}
-use Rattle.bank_spec.proofs.Promises.{compiled-bytes, compiled-formed, compiled-outputs, book-runs}
+use Rattle.bank_spec.proofs.Promises.{compiled-bytes, compiled-formed, compiled-outputs, book-runs, scan-outputs}
 use Rattle.claims.specs.OldPanels.{OldForm, AsBefore}
 
 -- a well formed block is not refused with 12
@@ -41,6 +43,15 @@ module _ (R bytes records rows : List ℕ) (moved : widen R bytes records rows .
       let up = widened-same R bytes records rows moved in
       record {
         admitted = λ S m bs. not-12 S m bs (W .records) (W .rows) (ap₂ wellFormed has-records has-rows ∙ up .formed);
+        scanned = λ S m k ws s b l h p q.
+            let B = blockAt (k .blocks) b in
+            let n = sum b (λ i. cellCount (blockAt (k .blocks) i .records)) in
+            let same : B .records ≡ recordsLeft R (widen R bytes records rows) = p ∙ has-records in
+            let count : cellCount (B .records) ≡ cellCount R = ap cellCount (same ∙ up .records) in
+            scan-outputs S m k ws s b l h
+            ∙ ap₂ (λ (x y : List ℕ). run x y (getD ws b 0) (min (s - n) (cellCount (B .records))) .outputs) same (q ∙ has-rows)
+            ∙ ap (λ (c : ℕ). run (recordsLeft R (widen R bytes records rows)) (rowsLeft twoBytes R (widen R bytes records rows)) (getD ws b 0) (min (s - n) c) .outputs) count
+            ∙ ap (λ (x : Running). x .outputs) (up .runs (getD ws b 0) (min (s - n) (cellCount R)) (min-le-right (s - n) (cellCount R)));
         outputs = λ S m calls b h p q.
             let B = blockAt (bookAfter S m newBook calls .blocks) b in
             let (n, n≤, is) = book-runs S m calls b h in
