@@ -20,7 +20,7 @@ use Rattle.stored_spec.specs.RowBytes.{twoBytes}
 use Rattle.stored_spec.specs.Cells.{fits, rows}
 use Rattle.stored_spec.specs.StoredForm.{StoredCell, Reading, recordCount, variable, cutByte, railByte, appended, withVariable, withCut, reading, storedCells, cellCount, noCell, cellAt, sizeOf, rowsBefore, rowCount, cellFormed, cellFormedAs, recordsFormed}
 use Rattle.stored_spec.specs.Run.{address, rowPlace, outputsAfter}
-use Rattle.stored.specs.Reads.{hasCell, cellsFit, rowsCounted, cellRails, rowRead, outputsRead}
+use Rattle.stored.specs.Reads.{hasCell, cellsFit, cellsFitAs, rowsCounted, cellRails, rowRead, outputsRead}
 use Rattle.stored_spec.proofs.CellSizes.{few-inputs, few-outputs, few-rows}
 use Rattle.stored_spec.proofs.StoredCells.{cellsTo, endedCell}
 use Rattle.stored_spec.proofs.StoredParts.{RecordsHave, records-have}
@@ -164,11 +164,11 @@ few-cells R i cut p q = omega (arith, p, q, one-cell (eqb cut 1), cells-few R i)
 
 -- rows counted, where the cells fit
 pub formed-fit : (R : List ℕ) → recordsFormed R ≡ true → cellsFit R ≡ true
-unfolding cellsFit
+unfolding cellsFitAs
 formed-fit R e = let h = records-have twoBytes R e in and-join (le-leb (length R) 80 (omega (arith, h .whole, h .few))) (h .cells)
 
 pub fit-parts : (R : List ℕ) → cellsFit R ≡ true → (length R ≤ 80) × (every (cellCount R) (cellFormed R) ≡ true)
-unfolding cellsFit
+unfolding cellsFitAs
 fit-parts R e =
     let h = and-split (leb (length R) 80) (every (cellCount R) (cellFormed R)) e in
     (leb-true (length R) 80 (h .0), h .1)

@@ -7,8 +7,8 @@ use mathlib.Core.List.{List}
 use lib.Dec.{leb, ltb}
 use lib.ListN.{length}
 use Rattle.laws.specs.Tests.{every}
-use Rattle.stored_spec.specs.RowBytes.{oneByte}
-use Rattle.stored_spec.specs.StoredForm.{recordsFormed, cellCount, cellFormed, cellFormedAs, cellAt, rowCount}
+use Rattle.stored_spec.specs.RowBytes.{twoBytes}
+use Rattle.stored_spec.specs.StoredForm.{recordsFormed, cellCount, cellFormedAs, cellAt, rowCount}
 use Rattle.stored_spec.specs.Run.{rowPlace, outputsAfter}
 pub use Rattle.stored.specs.declared.CellRails.{CellRails}
 
@@ -16,13 +16,13 @@ pub use Rattle.stored.specs.declared.CellRails.{CellRails}
 unfoldable pub hasCell : List ℕ → ℕ → Bool
 hasCell R k = recordsFormed R && ltb k (cellCount R)
 
--- at most 80 bytes, no cell larger than the largest: of these rows can be counted
-unfoldable pub cellsFit : List ℕ → Bool
-cellsFit R = leb (length R) 80 && every (cellCount R) (cellFormed R)
+-- at most 80 bytes, no cell larger than the largest with z bytes a row
+unfoldable pub cellsFitAs : ℕ → List ℕ → Bool
+cellsFitAs z R = leb (length R) 80 && every (cellCount R) (cellFormedAs z R)
 
--- at most 80 bytes, no cell with more outputs than a row of one byte has bits
-unfoldable pub oneByteFits : List ℕ → Bool
-oneByteFits R = leb (length R) 80 && every (cellCount R) (cellFormedAs oneByte R)
+-- with two bytes a row: of these rows can be counted
+abbrev pub cellsFit : List ℕ → Bool
+cellsFit R = cellsFitAs twoBytes R
 
 unfoldable pub rowsCounted : List ℕ → ℕ
 rowsCounted R = cond (cellsFit R) (rowCount R) 0

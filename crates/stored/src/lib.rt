@@ -12,7 +12,7 @@ ghost use Rattle.laws.specs.Lists.{puts};
 ghost use Rattle.stored_spec.specs.RowBytes.{oneByte};
 ghost use Rattle.stored_spec.specs.StoredForm.{wellFormed, wellFormedAs, recordsFormed, cellCount};
 ghost use Rattle.stored.specs.Places.{cellPlace};
-ghost use Rattle.stored.specs.Reads.{oneByteFits, rowsCounted, cellRails, rowRead, outputsRead};
+ghost use Rattle.stored.specs.Reads.{cellsFitAs, rowsCounted, cellRails, rowRead, outputsRead};
 ghost use Rattle.stored.specs.RecordArrays.{cascadeFrom, readAs};
 ghost use Rattle.stored_spec.specs.ReadWrite.{read, writtenAs, write};
 use sheet_spec::MOST_VARIABLES;
@@ -55,9 +55,9 @@ pub fn one_byte_formed(records: &[u8], rows: &[u8]) -> bool
 
 // At most 80 bytes of records, no cell of which has more outputs than a row of one byte has bits.
 pub fn one_byte_fits(records: &[u8]) -> bool
-    ensures { λ r. ⌜ r ≡ oneByteFits (now (records .entry)) ⌝ }
+    ensures { λ r. ⌜ r ≡ cellsFitAs oneByte (now (records .entry)) ⌝ }
 {
-    reads::one_byte_fits(records)
+    reads::few_fit(records, 1)
 }
 
 // Copies bytes to the front of others, as many as there is room for.

@@ -6,9 +6,10 @@ ghost use lib.Dec.{leb, ltb};
 ghost use lib.ListN.{length, set};
 ghost use Rattle.laws.specs.Bits.{bit};
 ghost use Rattle.sheet_spec.specs.Limits.{largestOutputs};
+ghost use Rattle.stored_spec.specs.RowBytes.{twoBytes};
 ghost use Rattle.stored_spec.specs.StoredForm.{cellCount, cellAt};
 ghost use Rattle.stored_spec.specs.Run.{address, outputsAfter};
-ghost use Rattle.stored.specs.Reads.{hasCell, cellsFit, oneByteFits, rowsCounted, cellRails, rowRead, outputsRead};
+ghost use Rattle.stored.specs.Reads.{hasCell, cellsFit, cellsFitAs, rowsCounted, cellRails, rowRead, outputsRead};
 use crate::CellRails;
 use crate::casts::narrow;
 use crate::casts::power;
@@ -36,22 +37,13 @@ pub fn count_cells(records: &[u8]) -> usize
     cells
 }
 
-// At most 80 bytes, whose cells fit.
-fn few_fit(records: &[u8]) -> bool
-    ensures { λ r. ⌜ r ≡ cellsFit (now (records .entry)) ⌝ }
+// At most 80 bytes, whose cells fit rows of size bytes.
+pub fn few_fit(records: &[u8], size: usize) -> bool
+    requires { ⌜ size ≤ twoBytes ⌝ }
+    ensures { λ r. ⌜ r ≡ cellsFitAs size (now (records .entry)) ⌝ }
 {
     if records.len() <= MOST_RECORD_BYTES {
-        return cells_fit(records, 2);
-    }
-    false
-}
-
-// At most 80 bytes, whose cells fit rows of one byte.
-pub fn one_byte_fits(records: &[u8]) -> bool
-    ensures { λ r. ⌜ r ≡ oneByteFits (now (records .entry)) ⌝ }
-{
-    if records.len() <= MOST_RECORD_BYTES {
-        return cells_fit(records, 1);
+        return cells_fit(records, size);
     }
     false
 }
@@ -60,7 +52,7 @@ pub fn one_byte_fits(records: &[u8]) -> bool
 pub fn count_rows(records: &[u8]) -> usize
     ensures { λ r. ⌜ r ≡ rowsCounted (now (records .entry)) ⌝ }
 {
-    if few_fit(records) {
+    if few_fit(records, 2) {
         return rows_of(records);
     }
     0
@@ -84,7 +76,7 @@ fn has_rails(records: &[u8], k: usize) -> bool
 fn has_rows(records: &[u8], k: usize) -> bool
     ensures { λ r. ⌜ r ≡ (cellsFit (now (records .entry)) && ltb k (cellCount (now (records .entry)))) ⌝ }
 {
-    few_fit(records) & (k < count_cells(records))
+    few_fit(records, 2) & (k < count_cells(records))
 }
 
 // The new byte where the cell is the one that is sought, else the old one.

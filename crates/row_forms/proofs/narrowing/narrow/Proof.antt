@@ -18,7 +18,7 @@ use Rattle.stored_spec.specs.ReadWrite.{writtenAs}
 use Rattle.stored_spec.proofs.StoredParts.{records-have}
 use Rattle.stored_spec.proofs.ReadWriteCases.{formed-parts}
 use Rattle.stored_spec.proofs.RowForms.{room-one, room-two}
-use Rattle.stored.specs.Reads.{oneByteFits}
+use Rattle.stored.specs.Reads.{cellsFitAs}
 use Rattle.row_forms_spec.specs.Moves.{overEight, narrow}
 use Rattle.row_forms_spec.proofs.MoveAnswers.{gives-12, gives-10, gives-11, gives-15, gives-0, fit-not-over, not-over-fit}
 use Rattle.row_forms.proofs.narrowing.narrow.Statement.{statement}
@@ -30,16 +30,16 @@ module _ (R bytes : List ℕ) (e : wellFormed R bytes ≡ true) where
   wanted = omega (arith, formed-parts twoBytes R bytes e .1, room-one (rowCount R), room-two (rowCount R))
 
   -- the test of the cells
-  fit-is : oneByteFits R ≡ every (cellCount R) (cellFormedAs oneByte R)
-  unfolding oneByteFits
+  fit-is : cellsFitAs oneByte R ≡ every (cellCount R) (cellFormedAs oneByte R)
+  unfolding cellsFitAs
   fit-is =
       let h = records-have twoBytes R (formed-parts twoBytes R bytes e .0) in
       ap (λ (b : Bool). b && every (cellCount R) (cellFormedAs oneByte R)) (le-leb (length R) 80 (omega (arith, h .whole, h .few)))
 
-  over-no : oneByteFits R ≡ true → overEight R ≡ false
+  over-no : cellsFitAs oneByte R ≡ true → overEight R ≡ false
   over-no f = fit-not-over R (sym fit-is ∙ f)
 
-  over-yes : oneByteFits R ≡ false → overEight R ≡ true
+  over-yes : cellsFitAs oneByte R ≡ false → overEight R ≡ true
   over-yes f =
       let cells = records-have twoBytes R (formed-parts twoBytes R bytes e .0) .cells in
       by-test (overEight R) (λ o. o) (λ o. absurd (true≢false (sym (not-over-fit R cells o) ∙ sym fit-is ∙ f)))
