@@ -2,8 +2,8 @@
 -- Assumes nothing.
 use mathlib.Core.Path.{_≡_, refl, sym, _∙_, ap, ap₂}
 use mathlib.Core.List.{List, [], _∷_, _++_}
-use Prim.Native.Nat.{ℕ, zero, suc, _+_, _*_, _<_, _≤_}
-use native.Mathlib.Nat.{not-suc-le-zero, add-zero, zero-add, add-suc}
+use Prim.Native.Nat.{ℕ, zero, suc, _+_, _-_, _*_, _<_, _≤_, min}
+use native.Mathlib.Nat.{not-suc-le-zero, add-zero, zero-add, add-suc, min-eq-left, min-eq-right}
 use native.Mathlib.Numerals.{add-one}
 use native.Mathlib.Omega.{arith}
 use lib.ListN.{length, getD, set, length-set, replicate, length-replicate, getD-replicate}
@@ -34,6 +34,22 @@ module _ {A : Type 0} (f : ℕ → A) where
   puts-past n zero l h = ap (λ (k : ℕ). puts k f l) (add-zero n)
   puts-past n (suc c) l h =
       ap (λ (k : ℕ). puts k f l) (add-suc n c) ∙ set-out (puts (n + c) f l) (n + c) (f (n + c)) (omega (arith, length-puts (n + c) l)) ∙ puts-past n c l h
+
+  -- as many as there is room for
+  pub puts-room : (n : ℕ) (l : List A) → puts (min n (length l)) f l ≡ puts n f l
+  puts-room n l =
+      by-less (length l) n
+      (λ h.
+      let more : length l + (n - length l) ≡ n = omega arith in
+      ap (λ (k : ℕ). puts k f l) (min-eq-right (omega arith)) ∙ sym (puts-past (length l) (n - length l) l (omega arith)) ∙ ap (λ (k : ℕ). puts k f l) more)
+      (λ h. ap (λ (k : ℕ). puts k f l) (min-eq-left h))
+
+  -- two stores more, where they come in pairs
+  pub puts-pair : (i : ℕ) (l s : List A) (x y : A) → s ≡ puts (i * 2) f l → x ≡ f (i * 2) → y ≡ f (i * 2 + 1)
+      → set (set s (i * 2) x) (i * 2 + 1) y ≡ puts ((i + 1) * 2) f l
+  puts-pair i l s x y e p q =
+      let n : i * 2 + 1 + 1 ≡ (i + 1) * 2 = omega arith in
+      puts-next (i * 2 + 1) l (set s (i * 2) x) y (puts-next (i * 2) l s x e p) q ∙ ap (λ (k : ℕ). puts k f l) n
 
   -- what is stored, and what is not stored to
   pub getD-puts : (n : ℕ) (l : List A) (d : A) (i : ℕ) → i < n → i < length l → getD (puts n f l) i d ≡ f i

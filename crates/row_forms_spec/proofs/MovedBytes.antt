@@ -6,19 +6,16 @@ use Prim.Native.Nat.{ℕ, _+_, _*_, _/_, _%_, _^_, _<_}
 use native.Mathlib.Nat.{div-one, mod-eq-of-lt}
 use native.Mathlib.Omega.{arith}
 use lib.ListN.{length, getD}
-use Rattle.laws.proofs.Lists.{getD-rect}
-use Rattle.stored_spec.specs.RowBytes.{oneByte, twoBytes, rowValue, rowsOf, rowBytes}
-use Rattle.stored_spec.proofs.RowForms.{length-rowBytes, length-rowsOf, row-at, row-one, row-two, room-one, room-two}
+use Rattle.stored_spec.specs.RowBytes.{oneByte, twoBytes, rowValue, rowsOf}
+use Rattle.stored_spec.proofs.RowForms.{byte-at, length-rowBytes, length-rowsOf, row-at, row-one, row-two, room-one, room-two}
 use Rattle.row_forms_spec.specs.Moves.{movedRows}
 use Rattle.row_forms_spec.proofs.MovedRows.{AreBytes}
 
 -- byte x of row i
 moved-byte : (a b : ℕ) (bytes : List ℕ) (i x : ℕ) → i < length bytes / a → x < b
     → getD (movedRows a b bytes) (i * b + x) 0 ≡ rowValue a bytes i / 2 ^ (8 * x) % 256
-unfolding rowBytes
 moved-byte a b bytes i x l m =
-    let rows = rowsOf a bytes in
-    getD-rect b (λ i x. getD rows i 0 / 2 ^ (8 * x) % 256) 0 (length rows) i x (omega (arith, length-rowsOf a bytes)) m
+    byte-at b (rowsOf a bytes) i x (omega (arith, length-rowsOf a bytes)) m
     ∙ ap (λ (v : ℕ). v / 2 ^ (8 * x) % 256) (row-at a bytes i l)
 
 -- widened: each byte, then 0

@@ -2,8 +2,8 @@
 ghost use mathlib.Core.Path.{_≡_};
 ghost use mathlib.Core.Bool.{true, cond, _&&_};
 ghost use Prim.Native.Nat.{_≤_, _<_, _+_, _-_, _*_, _/_, _^_};
-ghost use lib.Dec.{eqb, leb, ltb};
-ghost use lib.ListN.{length, getD};
+ghost use lib.Dec.{eqb, leb};
+ghost use lib.ListN.{length};
 ghost use Rattle.laws.specs.Tests.{every, within};
 ghost use Rattle.sheet_spec.specs.Job.{isInput};
 ghost use Rattle.sheet_spec.specs.Limits.{largestInputs, largestOutputs};

@@ -78,13 +78,17 @@ module _ (z : ℕ) where
   unfolding rowValue
   row-lt bytes h i = joined-lt z (λ b. getD bytes (i * z + b) 0) (λ b l. h (i * z + b))
 
+  -- byte b of row i in the bytes of rows
+  pub byte-at : (rows : List ℕ) (i b : ℕ) → i < length rows → b < z → getD (rowBytes z rows) (i * z + b) 0 ≡ getD rows i 0 / 2 ^ (8 * b) % 256
+  unfolding rowBytes
+  byte-at rows i b l m = getD-rect z (λ i b. getD rows i 0 / 2 ^ (8 * b) % 256) 0 (length rows) i b l m
+
   -- a row of the bytes of rows
   pub row-kept : (rows : List ℕ) (i : ℕ) → i < length rows → getD rows i 0 < 2 ^ (8 * z) → rowValue z (rowBytes z rows) i ≡ getD rows i 0
-  unfolding rowValue rowBytes
+  unfolding rowValue
   row-kept rows i l h =
-      let F : ℕ → ℕ → ℕ = λ i b. getD rows i 0 / 2 ^ (8 * b) % 256 in
-      sum-ext (λ b. getD (rect (length rows) z F) (i * z + b) 0 * 2 ^ (8 * b)) (λ b. F i b * 2 ^ (8 * b)) z
-      (λ b m. ap (λ (x : ℕ). x * 2 ^ (8 * b)) (getD-rect z F 0 (length rows) i b l m))
+      sum-ext (λ b. getD (rowBytes z rows) (i * z + b) 0 * 2 ^ (8 * b)) (λ b. getD rows i 0 / 2 ^ (8 * b) % 256 * 2 ^ (8 * b)) z
+      (λ b m. ap (λ (x : ℕ). x * 2 ^ (8 * b)) (byte-at rows i b l m))
       ∙ bytes-joined z (getD rows i 0) ∙ mod-eq-of-lt h
 
   -- the bytes of rows are bytes

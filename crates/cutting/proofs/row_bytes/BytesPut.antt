@@ -9,7 +9,7 @@ use lib.ListN.{length, getD, set, replicate}
 use lib.Seq.{sets, ext-getD}
 use Rattle.laws.specs.Lists.{tab, rect, written, puts}
 use Rattle.laws.proofs.Lists.{length-tab, getD-tab, length-rect, getD-rect}
-use Rattle.laws.proofs.Puts.{puts-sets, puts-next}
+use Rattle.laws.proofs.Puts.{puts-sets, puts-pair}
 use Rattle.laws.proofs.Filled.{written-sets, laid}
 use Rattle.stored_spec.specs.RowBytes.{twoBytes, rowBytes}
 use Rattle.cutting.specs.Plan.{rowByte}
@@ -46,9 +46,7 @@ pair-next rows l s i x y e p q =
     let b : i * 2 % 2 ≡ 0 = omega arith in
     let c : (i * 2 + 1) / 2 ≡ i = omega arith in
     let d : (i * 2 + 1) % 2 ≡ 1 = omega arith in
-    let n : i * 2 + 1 + 1 ≡ (i + 1) * 2 = omega arith in
     let first : x ≡ rowByte rows (i * 2) =
     p ∙ ap (λ (z : ℕ). z % 256) (sym (div-one (getD rows i 0))) ∙ sym (ap₂ (λ (k m : ℕ). getD rows k 0 / 2 ^ (8 * m) % 256) a b) in
     let second : y ≡ rowByte rows (i * 2 + 1) = q ∙ sym (ap₂ (λ (k m : ℕ). getD rows k 0 / 2 ^ (8 * m) % 256) c d) in
-    puts-next (rowByte rows) (i * 2 + 1) l (set s (i * 2) x) y (puts-next (rowByte rows) (i * 2) l s x e first) second
-    ∙ ap (λ (k : ℕ). puts k (rowByte rows) l) n
+    puts-pair (rowByte rows) i l s x y e first second

@@ -1,6 +1,6 @@
 -- `narrow` moves a cascade to one byte a row.
 -- Assumes nothing.
-use mathlib.Core.Path.{_≡_, refl, sym, _∙_, ap, ap₂}
+use mathlib.Core.Path.{_≡_, sym, _∙_, ap, ap₂}
 use mathlib.Core.Bool.{Bool, true, false, true≢false, _&&_}
 use mathlib.Core.List.{List}
 use Prim.Native.Nat.{ℕ, _/_, _≤_}
@@ -10,7 +10,7 @@ use borrow.Author.Tests.{le-leb, ltb-true, ltb-false, not-true, not-false}
 use denote.Ref.{now}
 use lib.ListN.{length}
 use Rattle.laws.specs.Tests.{every}
-use Rattle.laws.proofs.Cases.{and-split, by-test}
+use Rattle.laws.proofs.Cases.{by-test}
 use Rattle.laws.proofs.Puts.{copied}
 use Rattle.stored_spec.specs.RowBytes.{oneByte, twoBytes, room}
 use Rattle.stored_spec.specs.StoredForm.{cellCount, cellFormedAs, rowCount, wellFormed}

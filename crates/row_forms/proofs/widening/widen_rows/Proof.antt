@@ -8,7 +8,7 @@ use borrow.Author.Needs.{needs}
 use denote.Ref.{now}
 use lib.ListN.{length, getD, set, length-set}
 use Rattle.laws.specs.Lists.{puts}
-use Rattle.laws.proofs.Puts.{puts-none, puts-next, copied}
+use Rattle.laws.proofs.Puts.{puts-none, puts-pair, copied}
 use Rattle.stored_spec.specs.RowBytes.{oneByte, twoBytes}
 use Rattle.stored_spec.proofs.RowForms.{room-two}
 use Rattle.row_forms_spec.specs.Moves.{movedRows}
@@ -19,14 +19,6 @@ use Rattle.row_forms.proofs.widening.widen_rows.Tie as tie
 
 abbrev moved : List ℕ → ℕ → ℕ
 moved from n = getD (movedRows oneByte twoBytes from) n 0
-
--- two stores more
-pair-next : (from l s : List ℕ) (i x : ℕ) → s ≡ puts (i * 2) (moved from) l → x ≡ moved from (i * 2) → 0 ≡ moved from (i * 2 + 1)
-    → set (set s (i * 2) x) (i * 2 + 1) 0 ≡ puts ((i + 1) * 2) (moved from) l
-pair-next from l s i x e p q =
-    let n : i * 2 + 1 + 1 ≡ (i + 1) * 2 = omega arith in
-    puts-next (moved from) (i * 2 + 1) l (set s (i * 2) x) 0 (puts-next (moved from) (i * 2) l s x e p) q
-    ∙ ap (λ (k : ℕ). puts k (moved from) l) n
 
 abbrev Inv-loop : tie.InvT-loop
 Inv-loop from to₀ i₀ to i = (i ≤ length from) × (to ≡ puts (i * 2) (moved from) to₀) × (length to ≡ length to₀)
@@ -74,7 +66,7 @@ loop-again c =
     let are : AreBytes from = λ i. omega (arith, c .shared-slice-known .given i) in
     let here = c .before .loop-test .taken in (
       omega arith,
-      pair-next from (now (a .to)) (l .to) (l .i) _ (l .inv .1) (sym (wide-low from are (l .i) here)) (sym (wide-high from are (l .i) here)),
+      puts-pair (moved from) (l .i) (now (a .to)) (l .to) _ 0 (l .inv .1) (sym (wide-low from are (l .i) here)) (sym (wide-high from are (l .i) here)),
       length-set (set (l .to) (l .i * 2) (getD from (l .i) 0)) (l .i * 2 + 1) 0 ∙ length-set (l .to) (l .i * 2) (getD from (l .i) 0) ∙ l .inv .2,
     )
 

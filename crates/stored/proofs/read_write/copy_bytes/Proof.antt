@@ -1,26 +1,15 @@
 -- `copy_bytes` copies as many bytes as there is room for.
 -- Assumes nothing.
 use mathlib.Core.Path.{_≡_, refl, sym, _∙_, ap}
-use mathlib.Core.List.{List}
-use Prim.Native.Nat.{ℕ, _≤_, _+_, _-_, min}
-use native.Mathlib.Nat.{min-eq-left, min-eq-right}
+use Prim.Native.Nat.{ℕ, _≤_, _-_}
 use native.Mathlib.Omega.{arith}
 use borrow.Author.Needs.{needs}
 use denote.Ref.{now}
 use lib.ListN.{length, getD, length-set}
 use Rattle.laws.specs.Lists.{puts}
-use Rattle.laws.proofs.Cases.{by-less}
-use Rattle.laws.proofs.Puts.{puts-none, puts-next, puts-past}
+use Rattle.laws.proofs.Puts.{puts-none, puts-next, puts-room}
 use Rattle.stored.proofs.read_write.copy_bytes.Statement.{statement}
 use Rattle.stored.proofs.read_write.copy_bytes.Tie as tie
-
-as-many : (f : ℕ → ℕ) (n : ℕ) (l : List ℕ) → puts (min n (length l)) f l ≡ puts n f l
-as-many f n l =
-    by-less (length l) n
-    (λ h.
-    let more : length l + (n - length l) ≡ n = omega arith in
-    ap (λ (k : ℕ). puts k f l) (min-eq-right (omega arith)) ∙ sym (puts-past f (length l) (n - length l) l (omega arith)) ∙ ap (λ (k : ℕ). puts k f l) more)
-    (λ h. ap (λ (k : ℕ). puts k f l) (min-eq-left h))
 
 abbrev Inv-loop : tie.InvT-loop
 Inv-loop from to₀ count i₀ to i = (i ≤ count) × (to ≡ puts i (λ i. getD from i 0) to₀) × (length to ≡ length to₀)
@@ -65,7 +54,7 @@ returns c =
     let F : ℕ → ℕ = λ i. getD (now (a .from)) i 0 in
     let n = length (now (a .from)) in
     let e : l .i ≡ m .result = omega arith in
-    l .inv .1 ∙ ap (λ (x : ℕ). puts x F (now (a .to))) (e ∙ m .ensures .0) ∙ as-many F n (now (a .to))
+    l .inv .1 ∙ ap (λ (x : ℕ). puts x F (now (a .to))) (e ∙ m .ensures .0) ∙ puts-room F n (now (a .to))
 
 pub copy-bytes-spec : {M : Type 1} → statement M
 copy-bytes-spec =
