@@ -3,10 +3,17 @@
 //! Both moves take the stored cascade, then the record memory and the row memory that it goes to. They answer 0, with records and
 //! rows at the front of the two and the bytes past them kept; or the refusal, and then both memories hold what they held.
 
-use crate::stored::{cells, cells_with_rows, Cell, ROW_BYTES};
+use crate::stored::{cells, cells_with_rows, Cell, Valued, ROW_BYTES};
 
 /// The most outputs of a cell with one-byte rows, lower rails counted in.
 pub const NARROW_OUTPUTS: usize = 8;
+
+/// A one-byte row.
+impl Valued for u8 {
+    fn value(self) -> u16 {
+        u16::from(self)
+    }
+}
 
 /// The two moves: to two-byte rows, and back to one-byte rows.
 #[derive(Clone, Copy, Debug, PartialEq, Eq)]
@@ -110,27 +117,4 @@ pub fn narrow(records: &[u8], rows: &[u8], to_records: &mut [u8], to_rows: &mut 
         *to = row[0];
     }
     0
-}
-
-/// The cells of a well-formed cascade with one-byte rows, each with the row that an input word leads to.
-pub fn narrow_walk<'a>(
-    cells: &'a [(Cell, &'a [u8])],
-    word: u16,
-) -> impl Iterator<Item = (&'a Cell, u16)> + 'a {
-    cells.iter().scan(0, move |rail, (cell, own)| {
-        let row = u16::from(own[cell.address(*rail, word)]);
-        *rail = cell.next_rail(row);
-        Some((cell, row))
-    })
-}
-
-/// What it emits for the word, by output number; None for an output it does not have.
-pub fn narrow_emitted(cells: &[(Cell, &[u8])], word: u16) -> [Option<bool>; 8] {
-    let mut emitted = [None; 8];
-    for (cell, row) in narrow_walk(cells, word) {
-        for (output, value) in cell.values(row) {
-            emitted[output] = Some(value);
-        }
-    }
-    emitted
 }

@@ -20,6 +20,17 @@ pub fn row_value(row: Row) -> u16 {
     u16::from_le_bytes(row)
 }
 
+/// A row in some form, whose value can be read.
+pub trait Valued: Copy {
+    fn value(self) -> u16;
+}
+
+impl Valued for Row {
+    fn value(self) -> u16 {
+        row_value(self)
+    }
+}
+
 /// One variable of the order, top first. `rails` are those of the cut directly below it.
 #[derive(Clone, Copy, Debug, PartialEq, Eq)]
 pub struct Record {
@@ -211,19 +222,19 @@ pub fn write(cascade: &Cascade, records: &mut [u8], rows: &mut [u8]) -> Result<(
 }
 
 /// The cells of a well-formed cascade, each with the value of the row that an input word leads to.
-pub fn walk<'a>(
-    cells: &'a [(Cell, &'a [Row])],
+pub fn walk<'a, R: Valued>(
+    cells: &'a [(Cell, &'a [R])],
     word: u16,
 ) -> impl Iterator<Item = (&'a Cell, u16)> + 'a {
     cells.iter().scan(0, move |rail, (cell, own)| {
-        let row = row_value(own[cell.address(*rail, word)]);
+        let row = own[cell.address(*rail, word)].value();
         *rail = cell.next_rail(row);
         Some((cell, row))
     })
 }
 
 /// What the cells of a well-formed cascade emit for an input word, by output number; None for an output it does not have.
-pub fn emitted(cells: &[(Cell, &[Row])], word: u16) -> [Option<bool>; 8] {
+pub fn emitted<R: Valued>(cells: &[(Cell, &[R])], word: u16) -> [Option<bool>; 8] {
     let mut emitted = [None; 8];
     for (cell, row) in walk(cells, word) {
         for (output, value) in cell.values(row) {

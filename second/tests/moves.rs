@@ -15,8 +15,8 @@ use second::generate::{
     at_most, cascade, compiled, damage, damage_one_byte, job, low_bytes, made, row_bytes, Family,
     Rows, Shape, StoredBlock,
 };
-use second::moves::{narrow_cells, narrow_emitted, Way};
-use second::stored::well_formed;
+use second::moves::{narrow_cells, Way};
+use second::stored::{emitted, well_formed};
 
 const SEED: u64 = 707;
 
@@ -95,11 +95,11 @@ fn table_1_both_ways() {
     assert_eq!(moved(Way::Narrow, &wide), Ok(narrow));
     // Row 5 of the first cell, 3, leads x1x2x3x4 = 1010 to row 6 of the second, 2: y1 is 1, y2 is 0.
     let cells = narrow_cells(&A_RECORDS, &A_NARROW).expect("well formed");
-    let emitted = narrow_emitted(&cells, 0b0101);
-    assert_eq!(emitted[..3], [Some(true), Some(false), None]);
+    let set = emitted(&cells, 0b0101);
+    assert_eq!(set[..3], [Some(true), Some(false), None]);
     // 0000 leads to row 0, then again to row 0, 1.
-    let emitted = narrow_emitted(&cells, 0);
-    assert_eq!(emitted[..3], [Some(false), Some(true), None]);
+    let set = emitted(&cells, 0);
+    assert_eq!(set[..3], [Some(false), Some(true), None]);
 }
 
 #[test]

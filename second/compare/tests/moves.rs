@@ -10,7 +10,8 @@ use second::generate::{
     cascade, compiled, job, low_bytes, made, one_byte, Family, Random, Room, Rows, Shape,
     StoredBlock,
 };
-use second::moves::{narrow_cells, narrow_walk, Way};
+use second::moves::{narrow_cells, Way};
+use second::stored::walk;
 use std::collections::BTreeMap;
 
 const SEED: u64 = 7077;
@@ -200,7 +201,7 @@ fn scans_of_widened_cascades() {
             assert_eq!(state.latch(&words), 0);
             let mut expected = vec![2; 8 * blocks.len()];
             for (block, cells) in blocks.iter().enumerate() {
-                for (number, (cell, row)) in narrow_walk(cells, words[block]).enumerate() {
+                for (number, (cell, row)) in walk(cells, words[block]).enumerate() {
                     let step = state.step();
                     assert_eq!((step.kind, step.refusal), (1, 0));
                     let place = (usize::from(step.block), usize::from(step.cell));

@@ -4,7 +4,7 @@
 use super::shape::plain_shape;
 use super::{moved, tried, SEED};
 use second::generate::{compiled, job, low_bytes, made, one_byte, Family, StoredBlock};
-use second::moves::{narrow_cells, narrow_emitted, Way};
+use second::moves::{narrow_cells, Way};
 use second::stored::{cells_with_rows, emitted, well_formed};
 
 /// So many made by hand, and the accepted ones among so many jobs of each family.
@@ -40,7 +40,7 @@ fn same_run(narrow: &StoredBlock, wide: &StoredBlock) {
     let one = narrow_cells(&narrow.0, &narrow.1).expect("well formed");
     let two = cells_with_rows(&wide.0, &wide.1).expect("well formed");
     for word in 0..4_096 {
-        assert_eq!(narrow_emitted(&one, word), emitted(&two, word), "{wide:?}");
+        assert_eq!(emitted(&one, word), emitted(&two, word), "{wide:?}");
     }
 }
 
