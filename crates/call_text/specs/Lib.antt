@@ -2,4 +2,6 @@
 pub mod Known
 pub mod Lines
 pub mod Opened
+pub mod Tidy
+pub mod Wanted
 pub mod Words
