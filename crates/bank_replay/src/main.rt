@@ -3,38 +3,42 @@
 ghost use mathlib.Core.Path.{_≡_};
 ghost use Prim.Native.Nat.{_≤_};
 ghost use lib.ListN.{length};
-use libc::STDOUT_FILENO;
 use numbers::byte_at;
 use numbers::least;
+use printing::say;
+use printing::say_bad_line;
+use printing::say_bad_memory;
+use printing::say_number;
 use stored_spec::MOST_ROW_BYTES;
 
-fn say(text: &[u8]) {
-    io::write_all(STDOUT_FILENO, text);
-}
+// The bytes of the longest text.
+const MOST_TEXT: usize = 1048576;
 
-fn say_number(x: usize) {
-    io::print_decimal(STDOUT_FILENO, x as u64);
+// The calls of the longest list, 68 bytes of trace each.
+const MOST_CALLS: usize = 32768;
+
+// Where printing stands, and whether something was refused or not understood.
+struct Said {
+    at: usize,
+    refused: bool,
 }
 
 // "ok", "refused N", "idle" or "went BLOCK CELL".
-fn say_answer(kind: u8, first: u8, second: u8) {
+fn say_answer(out: &mut [u8], at: usize, kind: u8, first: u8, second: u8) -> usize {
     if kind == 0 {
-        say(b"ok");
-        return;
+        return say(out, at, b"ok");
     }
     if kind == 1 {
-        say(b"refused ");
-        say_number(first as usize);
-        return;
+        let said = say(out, at, b"refused ");
+        return say_number(out, said, first as usize);
     }
     if kind == 2 {
-        say(b"idle");
-        return;
+        return say(out, at, b"idle");
     }
-    say(b"went ");
-    say_number(first as usize);
-    say(b" ");
-    say_number(second as usize);
+    let went = say(out, at, b"went ");
+    let block = say_number(out, went, first as usize);
+    let spaced = say(out, block, b" ");
+    say_number(out, spaced, second as usize)
 }
 
 // 0 or 1 where the output is set, else a full stop.
@@ -61,42 +65,56 @@ fn signs(outputs: &[u8]) -> [u8; 8]
     text
 }
 
-// The place of each block and its outputs.
-fn say_blocks(count: usize, outputs: &[u8]) {
+// A block's place and its outputs.
+fn say_block(out: &mut [u8], at: usize, b: usize, outputs: &[u8]) -> usize {
+    let text = signs(outputs);
+    let spaced = say(out, at, b" ");
+    let place = say_number(out, spaced, b);
+    let parted = say(out, place, b":");
+    say(out, parted, &text)
+}
+
+// Those of each block.
+fn say_blocks(out: &mut [u8], at: usize, count: usize, outputs: &[u8]) -> usize {
+    let mut said = at;
     let mut b = 0;
-    let mut at = 0;
+    let mut place = 0;
     while b < count {
-        let from = least(at, outputs.len());
-        let text = signs(&outputs[from..]);
-        say(b" ");
-        say_number(b);
-        say(b":");
-        say(&text);
-        at = from + 8;
+        let from = least(place, outputs.len());
+        said = say_block(out, said, b, &outputs[from..]);
+        place = from + 8;
         b += 1;
     }
+    said
 }
 
-// A line for the 68 bytes of each call.
-fn say_trace(trace: &[u8], calls: usize) {
+// A line for the 68 bytes of a call.
+fn say_call(out: &mut [u8], at: usize, entry: &[u8]) -> usize {
+    let said = say_answer(
+        out,
+        at,
+        byte_at(entry, 0),
+        byte_at(entry, 1),
+        byte_at(entry, 2),
+    );
+    let outputs = least(4, entry.len());
+    let blocks = say_blocks(out, said, byte_at(entry, 3) as usize, &entry[outputs..]);
+    say(out, blocks, b"\n")
+}
+
+fn say_trace(out: &mut [u8], at: usize, trace: &[u8], calls: usize) -> Said {
+    let mut said = at;
+    let mut refused = false;
     let mut i = 0;
-    let mut at = 0;
+    let mut place = 0;
     while i < calls {
-        let from = least(at, trace.len());
-        let rest = &trace[from..];
-        say_answer(byte_at(rest, 0), byte_at(rest, 1), byte_at(rest, 2));
-        let outputs = least(4, rest.len());
-        say_blocks(byte_at(rest, 3) as usize, &rest[outputs..]);
-        say(b"\n");
-        at = from + 68;
+        let from = least(place, trace.len());
+        said = say_call(out, said, &trace[from..]);
+        refused = refused | (byte_at(trace, from) == 1);
+        place = from + 68;
         i += 1;
     }
-}
-
-fn say_bad_line(number: usize) {
-    say(b"line ");
-    say_number(number);
-    say(b": not understood\n");
+    Said { at: said, refused }
 }
 
 fn row_memory() -> [u8; MOST_ROW_BYTES]
@@ -105,62 +123,102 @@ fn row_memory() -> [u8; MOST_ROW_BYTES]
     [0u8; MOST_ROW_BYTES]
 }
 
-fn code_memory() -> [u8; 32768]
-    ensures { λ r. ⌜ 32768 ≡ length r ⌝ }
+// The longest text, and one byte more, by which a longer one shows.
+fn text_memory() -> [u8; MOST_TEXT + 1]
+    ensures { λ r. ⌜ 1048577 ≡ length r ⌝ }
 {
-    [0u8; 32768]
+    [0u8; MOST_TEXT + 1]
 }
 
-// 6,554 calls of 68 bytes: a text of 32,768 bytes has no more.
-fn trace_memory() -> [u8; 445672]
-    ensures { λ r. ⌜ 445672 ≡ length r ⌝ }
+fn trace_memory() -> [u8; MOST_CALLS * 68]
+    ensures { λ r. ⌜ 2228224 ≡ length r ⌝ }
 {
-    [0u8; 445672]
+    [0u8; MOST_CALLS * 68]
 }
 
 // Runs the calls on the row memory and prints their trace.
-fn run_calls(list: &[u8], rows: &mut [u8]) {
-    let mut trace = trace_memory();
-    let refusal = replay::replay(list, rows, &mut trace);
-    if refusal != 0 {
-        say_answer(1, refusal, 0);
-        say(b"\n");
-        return;
-    }
-    say_trace(&trace, replay::call_count(list));
-}
-
-// Runs the calls of the lines, numbered from 2 on, up to the first that can't be read.
-fn run_lines(lines: &[u8], memory: usize) {
-    let mut code = code_memory();
+fn run_calls(out: &mut [u8], list: &[u8], memory: usize) -> Said {
     let mut rows = row_memory();
-    let read = call_text::read_text(lines, 2, &mut code);
-    let size = least(read.size, 32768);
+    let mut trace = trace_memory();
     let lent = least(memory, MOST_ROW_BYTES);
-    run_calls(&code[..size], &mut rows[..lent]);
-    if read.bad != 0 {
-        say_bad_line(read.bad);
+    let refusal = replay::replay(list, &mut rows[..lent], &mut trace);
+    if refusal == 0 {
+        return say_trace(out, 0, &trace, replay::call_count(list));
+    }
+    let said = say_answer(out, 0, 1, refusal, 0);
+    Said {
+        at: say(out, said, b"\n"),
+        refused: true,
     }
 }
 
-fn run_text(text: &[u8]) {
+// The line that can't be read, where there is one, after what was run before it; the lines are numbered from 2 on.
+fn say_unread(out: &mut [u8], said: Said, lines: &[u8], bad: usize) -> Said {
+    if bad < 2 {
+        return said;
+    }
+    Said {
+        at: say_bad_line(out, said.at, bad, call_text::wanted(lines, bad - 2)),
+        refused: true,
+    }
+}
+
+// Runs the calls of the lines up to the first that can't be read; code is memory for the calls in bytes.
+fn run_lines(out: &mut [u8], lines: &[u8], memory: usize, code: &mut [u8]) -> Said {
+    let read = call_text::read_text(lines, 2, code);
+    let size = least(read.size, code.len());
+    if MOST_CALLS < replay::call_count(&code[..size]) {
+        return Said {
+            at: say(out, 0, b"over 32768 calls\n"),
+            refused: true,
+        };
+    }
+    let said = run_calls(out, &code[..size], memory);
+    say_unread(out, said, lines, read.bad)
+}
+
+fn run_text(out: &mut [u8], text: &[u8], code: &mut [u8]) -> Said {
     let memory = call_text::memory_said(text);
     if MOST_ROW_BYTES < memory {
-        say_bad_line(1);
-        return;
+        return Said {
+            at: say_bad_memory(out, 0, 65536),
+            refused: true,
+        };
     }
     let end = call_text::line_end(text);
     if end < text.len() {
-        run_lines(&text[end + 1..], memory);
+        return run_lines(out, &text[end + 1..], memory, code);
+    }
+    Said {
+        at: 0,
+        refused: false,
     }
 }
 
-fn main() {
-    let mut buf = io::large_buffer();
-    let n = io::read_full(0, &mut buf);
-    if 32768 < n {
-        say(b"input over 32768 bytes\n");
-        return;
+// The text tidied; its own memory is then free for the calls.
+fn run_tidied(out: &mut [u8], text: &mut [u8], n: usize) -> Said {
+    let mut tidied = text_memory();
+    let used = least(n, text.len());
+    let size = least(call_text::tidy(&text[..used], &mut tidied).size, MOST_TEXT);
+    run_text(out, &tidied[..size], text)
+}
+
+fn run_input(out: &mut [u8]) -> Said {
+    let mut text = text_memory();
+    let n = io::read_full(0, &mut text);
+    if MOST_TEXT < n {
+        return Said {
+            at: say(out, 0, b"input over 1048576 bytes\n"),
+            refused: true,
+        };
     }
-    run_text(&buf[..n]);
+    run_tidied(out, &mut text, n)
+}
+
+fn main() {
+    let mut out = printing::memory();
+    let said = run_input(&mut out);
+    if printing::end(&out, said.at) & said.refused {
+        printing::tell(b"refused\n");
+    }
 }

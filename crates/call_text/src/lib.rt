@@ -84,7 +84,7 @@ pub fn read_text(text: &[u8], first: u32, code: &mut [u8]) -> TextRead
 }
 
 // What the line after the first n should have been, by how it begins: 1 bank, 2 admit, 3 latch, 4 step, 0 any of them.
-pub fn wanted(text: &[u8], n: u32) -> u8
+pub fn wanted(text: &[u8], n: usize) -> u8
     ensures { λ r. ⌜ r ≡ wantedAfter n (now (text .entry)) ⌝ }
 {
     wanted_first(&text[line_place(text, n)..])

@@ -40,7 +40,7 @@ fn next_line(text: &[u8], at: usize) -> usize
 }
 
 // Where the line after the first n begins.
-pub fn line_place(text: &[u8], n: u32) -> usize
+pub fn line_place(text: &[u8], n: usize) -> usize
     ensures { λ r. ⌜ (drop r (now (text .entry)) ≡ linesAfter n (now (text .entry))) × (r ≤ length (now (text .entry))) ⌝ }
 {
     let mut at = 0;

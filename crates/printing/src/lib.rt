@@ -1,6 +1,10 @@
 // Text for standard output, gathered in lent memory and written when that is full. A program hands on how many bytes stand gathered at the front of
 // the memory, or FAILED once a write has failed: then nothing more is gathered or written. What is written is not in the logic, so the functions
 // that write promise nothing of it; no text is left out unless a write fails.
+mod bad_lines;
+
+pub use bad_lines::say_bad_line;
+pub use bad_lines::say_bad_memory;
 ghost use mathlib.Core.Path.{_≡_};
 ghost use Prim.Native.Nat.{_≤_, _<_, _+_, _*_};
 ghost use lib.ListN.{length};

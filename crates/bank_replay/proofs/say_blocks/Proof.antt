@@ -1,15 +1,21 @@
--- `bank_replay::say_blocks` meets its contract.
+-- `say_blocks` meets its contract.
 -- Assumes nothing.
+use mathlib.Core.Path.{_≡_}
 use Prim.Native.Nat.{_-_, _≤_}
+use lib.ListN.{length}
 use borrow.Author.Needs.{needs}
 use Rattle.bank_replay.proofs.say_blocks.Statement.{statement}
 use Rattle.bank_replay.proofs.say_blocks.Tie as tie
+use Rattle.bank_replay.proofs.say_blocks.Reads as reads
+use Rattle.bank_replay.proofs.say_blocks.Lts as lts
+use Rattle.bank_replay.proofs.say_block.Reads as say-block-reads
+use Rattle.numbers.proofs.least.Reads as least-reads
 
 abbrev Inv-loop : tie.InvT-loop
-Inv-loop count outputs b₀ at₀ t7 t8 b at = b ≤ count
+Inv-loop out₀ at count outputs said₀ b₀ place₀ out said b place = (b ≤ count) × (length out ≡ length out₀)
 
 abbrev μ-loop : tie.MeasureT-loop
-μ-loop count outputs b₀ at₀ t7 t8 b at = count - b
+μ-loop out₀ at count outputs said₀ b₀ place₀ out said b place = count - b
 
 loop-holds : tie.Need-loop-holds Inv-loop μ-loop
 loop-holds c = search needs
@@ -17,41 +23,20 @@ loop-holds c = search needs
 least-requires : tie.Need-least-requires Inv-loop μ-loop
 least-requires c κs = search needs
 
-sub-signs : tie.Need-sub-signs Inv-loop μ-loop
-sub-signs c = search needs
+sub-say-block : tie.Need-sub-say-block Inv-loop μ-loop
+sub-say-block c = search needs
 
-part-signs-start : tie.Need-part-signs-start Inv-loop μ-loop
-part-signs-start c = search needs
+part-say-block-start : tie.Need-part-say-block-start Inv-loop μ-loop
+part-say-block-start c = search needs
 
-part-signs-end : tie.Need-part-signs-end Inv-loop μ-loop
-part-signs-end c = search needs
+part-say-block-end : tie.Need-part-say-block-end Inv-loop μ-loop
+part-say-block-end c = search needs
 
-signs-requires : tie.Need-signs-requires Inv-loop μ-loop
-signs-requires c κs = search needs
+say-block-requires : tie.Need-say-block-requires Inv-loop μ-loop
+say-block-requires c κs = search needs
 
-slice-aggregate-say : tie.Need-slice-aggregate-say Inv-loop μ-loop
-slice-aggregate-say c = search needs
-
-say-requires : tie.Need-say-requires Inv-loop μ-loop
-say-requires c κs = search needs
-
-say-number-requires : tie.Need-say-number-requires Inv-loop μ-loop
-say-number-requires c κs = search needs
-
-slice-aggregate-say-2 : tie.Need-slice-aggregate-say-2 Inv-loop μ-loop
-slice-aggregate-say-2 c = search needs
-
-say-requires-2 : tie.Need-say-requires-2 Inv-loop μ-loop
-say-requires-2 c κs = search needs
-
-slice-aggregate-say-3 : tie.Need-slice-aggregate-say-3 Inv-loop μ-loop
-slice-aggregate-say-3 c = search needs
-
-say-requires-3 : tie.Need-say-requires-3 Inv-loop μ-loop
-say-requires-3 c κs = search needs
-
-add-at : tie.Need-add-at Inv-loop μ-loop
-add-at c = search needs
+add-place : tie.Need-add-place Inv-loop μ-loop
+add-place c = search needs
 
 add-b : tie.Need-add-b Inv-loop μ-loop
 add-b c = search needs
@@ -61,6 +46,9 @@ loop-less c = search needs
 
 loop-again : tie.Need-loop-again Inv-loop μ-loop
 loop-again c = search needs
+
+same-length : tie.Need-same-length Inv-loop μ-loop
+same-length c = search needs
 
 returns : tie.Need-returns Inv-loop μ-loop
 returns c = search needs
@@ -73,19 +61,13 @@ say-blocks-spec =
     μ-loop
     loop-holds
     least-requires
-    sub-signs
-    part-signs-start
-    part-signs-end
-    signs-requires
-    slice-aggregate-say
-    say-requires
-    say-number-requires
-    slice-aggregate-say-2
-    say-requires-2
-    slice-aggregate-say-3
-    say-requires-3
-    add-at
+    sub-say-block
+    part-say-block-start
+    part-say-block-end
+    say-block-requires
+    add-place
     add-b
     loop-less
     loop-again
+    same-length
     returns)

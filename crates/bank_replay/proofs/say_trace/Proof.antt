@@ -1,15 +1,22 @@
--- `bank_replay::say_trace` meets its contract.
+-- `say_trace` meets its contract.
 -- Assumes nothing.
+use mathlib.Core.Path.{_≡_}
 use Prim.Native.Nat.{_-_, _≤_}
+use lib.ListN.{length}
 use borrow.Author.Needs.{needs}
 use Rattle.bank_replay.proofs.say_trace.Statement.{statement}
 use Rattle.bank_replay.proofs.say_trace.Tie as tie
+use Rattle.bank_replay.proofs.say_trace.Reads as reads
+use Rattle.bank_replay.proofs.say_trace.Lts as lts
+use Rattle.bank_replay.proofs.say_call.Reads as say-call-reads
+use Rattle.numbers.proofs.byte_at.Reads as byte-at-reads
+use Rattle.numbers.proofs.least.Reads as least-reads
 
 abbrev Inv-loop : tie.InvT-loop
-Inv-loop trace calls i₀ at₀ t8 i at = i ≤ calls
+Inv-loop out₀ at trace calls said₀ refused₀ i₀ place₀ out said refused i place = (i ≤ calls) × (length out ≡ length out₀)
 
 abbrev μ-loop : tie.MeasureT-loop
-μ-loop trace calls i₀ at₀ t8 i at = calls - i
+μ-loop out₀ at trace calls said₀ refused₀ i₀ place₀ out said refused i place = calls - i
 
 loop-holds : tie.Need-loop-holds Inv-loop μ-loop
 loop-holds c = search needs
@@ -17,56 +24,23 @@ loop-holds c = search needs
 least-requires : tie.Need-least-requires Inv-loop μ-loop
 least-requires c κs = search needs
 
-sub-rest : tie.Need-sub-rest Inv-loop μ-loop
-sub-rest c = search needs
+sub-say-call : tie.Need-sub-say-call Inv-loop μ-loop
+sub-say-call c = search needs
 
-part-rest-start : tie.Need-part-rest-start Inv-loop μ-loop
-part-rest-start c = search needs
+part-say-call-start : tie.Need-part-say-call-start Inv-loop μ-loop
+part-say-call-start c = search needs
 
-part-rest-end : tie.Need-part-rest-end Inv-loop μ-loop
-part-rest-end c = search needs
+part-say-call-end : tie.Need-part-say-call-end Inv-loop μ-loop
+part-say-call-end c = search needs
+
+say-call-requires : tie.Need-say-call-requires Inv-loop μ-loop
+say-call-requires c κs = search needs
 
 byte-at-requires : tie.Need-byte-at-requires Inv-loop μ-loop
 byte-at-requires c κs = search needs
 
-byte-at-requires-2 : tie.Need-byte-at-requires-2 Inv-loop μ-loop
-byte-at-requires-2 c κs = search needs
-
-byte-at-requires-3 : tie.Need-byte-at-requires-3 Inv-loop μ-loop
-byte-at-requires-3 c κs = search needs
-
-say-answer-requires : tie.Need-say-answer-requires Inv-loop μ-loop
-say-answer-requires c κs = search needs
-
-least-requires-2 : tie.Need-least-requires-2 Inv-loop μ-loop
-least-requires-2 c κs = search needs
-
-byte-at-requires-4 : tie.Need-byte-at-requires-4 Inv-loop μ-loop
-byte-at-requires-4 c κs = search needs
-
-cast-say-blocks : tie.Need-cast-say-blocks Inv-loop μ-loop
-cast-say-blocks c = search needs
-
-sub-say-blocks : tie.Need-sub-say-blocks Inv-loop μ-loop
-sub-say-blocks c = search needs
-
-part-say-blocks-start : tie.Need-part-say-blocks-start Inv-loop μ-loop
-part-say-blocks-start c = search needs
-
-part-say-blocks-end : tie.Need-part-say-blocks-end Inv-loop μ-loop
-part-say-blocks-end c = search needs
-
-say-blocks-requires : tie.Need-say-blocks-requires Inv-loop μ-loop
-say-blocks-requires c κs = search needs
-
-slice-aggregate-say : tie.Need-slice-aggregate-say Inv-loop μ-loop
-slice-aggregate-say c = search needs
-
-say-requires : tie.Need-say-requires Inv-loop μ-loop
-say-requires c κs = search needs
-
-add-at : tie.Need-add-at Inv-loop μ-loop
-add-at c = search needs
+add-place : tie.Need-add-place Inv-loop μ-loop
+add-place c = search needs
 
 add-i : tie.Need-add-i Inv-loop μ-loop
 add-i c = search needs
@@ -76,6 +50,9 @@ loop-less c = search needs
 
 loop-again : tie.Need-loop-again Inv-loop μ-loop
 loop-again c = search needs
+
+same-length : tie.Need-same-length Inv-loop μ-loop
+same-length c = search needs
 
 returns : tie.Need-returns Inv-loop μ-loop
 returns c = search needs
@@ -88,24 +65,14 @@ say-trace-spec =
     μ-loop
     loop-holds
     least-requires
-    sub-rest
-    part-rest-start
-    part-rest-end
+    sub-say-call
+    part-say-call-start
+    part-say-call-end
+    say-call-requires
     byte-at-requires
-    byte-at-requires-2
-    byte-at-requires-3
-    say-answer-requires
-    least-requires-2
-    byte-at-requires-4
-    cast-say-blocks
-    sub-say-blocks
-    part-say-blocks-start
-    part-say-blocks-end
-    say-blocks-requires
-    slice-aggregate-say
-    say-requires
-    add-at
+    add-place
     add-i
     loop-less
     loop-again
+    same-length
     returns)

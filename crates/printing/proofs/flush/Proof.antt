@@ -11,23 +11,18 @@ use Rattle.printing.proofs.flush.Lts as lts
 use Rattle.io.proofs.write_all.Reads as write-all-reads
 use Rattle.numbers.proofs.least.Reads as least-reads
 
--- src/lib.rt:37:9
 least-requires : tie.Need-least-requires
 least-requires c κs = search needs
 
--- src/lib.rt:38:37
 slice-aggregate-write-all : tie.Need-slice-aggregate-write-all
 slice-aggregate-write-all c = omega (arith, length-take (c .before .least .result) (now (c .before .before .before .args .out)))
 
--- src/lib.rt:38:8
 write-all-requires : tie.Need-write-all-requires
 write-all-requires c κs = search needs
 
--- src/lib.rt:39:9
 returns : tie.Need-returns
 returns c = search needs
 
--- src/lib.rt:36:1
 returns-2 : tie.Need-returns-2
 returns-2 c = search needs
 

@@ -16,67 +16,51 @@ Inv-loop out₀ at bytes said₀ from₀ out said from = (from ≤ length bytes)
 abbrev μ-loop : tie.MeasureT-loop
 μ-loop out₀ at bytes said₀ from₀ out said from = length bytes - from
 
--- src/lib.rt:112:5
 loop-holds : tie.Need-loop-holds Inv-loop μ-loop
 loop-holds c = search needs
 
--- src/lib.rt:112:11
 add-loop : tie.Need-add-loop Inv-loop μ-loop
 add-loop c = search needs
 
--- src/lib.rt:113:50
 add-say-piece : tie.Need-add-say-piece Inv-loop μ-loop
 add-say-piece c = search needs
 
--- src/lib.rt:113:37
 sub-say-piece : tie.Need-sub-say-piece Inv-loop μ-loop
 sub-say-piece c = search needs
 
--- src/lib.rt:113:37
 part-say-piece-start : tie.Need-part-say-piece-start Inv-loop μ-loop
 part-say-piece-start c = search needs
 
--- src/lib.rt:113:37
 part-say-piece-end : tie.Need-part-say-piece-end Inv-loop μ-loop
 part-say-piece-end c = search needs
 
--- src/lib.rt:113:9
 say-piece-requires : tie.Need-say-piece-requires Inv-loop μ-loop
 say-piece-requires c κs = search needs
 
--- src/lib.rt:114:9
 add-from : tie.Need-add-from Inv-loop μ-loop
 add-from c = search needs
 
--- src/lib.rt:112:5
 loop-less : tie.Need-loop-less Inv-loop μ-loop
 loop-less c = search needs
 
--- src/lib.rt:112:5
 loop-again : tie.Need-loop-again Inv-loop μ-loop
 loop-again c = search needs
 
--- src/lib.rt:116:26
 sub-say-piece-2 : tie.Need-sub-say-piece-2 Inv-loop μ-loop
 sub-say-piece-2 c = search needs
 
--- src/lib.rt:116:26
 part-say-piece-start-2 : tie.Need-part-say-piece-start-2 Inv-loop μ-loop
 part-say-piece-start-2 c = search needs
 
--- src/lib.rt:116:26
 part-say-piece-end-2 : tie.Need-part-say-piece-end-2 Inv-loop μ-loop
 part-say-piece-end-2 c = search needs
 
--- src/lib.rt:116:5
 say-piece-requires-2 : tie.Need-say-piece-requires-2 Inv-loop μ-loop
 say-piece-requires-2 c κs = search needs
 
--- src/lib.rt:109:1
 same-length : tie.Need-same-length Inv-loop μ-loop
 same-length c = search needs
 
--- src/lib.rt:109:1
 returns : tie.Need-returns Inv-loop μ-loop
 returns c = search needs
 

@@ -14,48 +14,37 @@ use Rattle.printing.proofs.piece_memory.Reads as piece-memory-reads
 use Rattle.printing.proofs.put_digits.Reads as put-digits-reads
 use Rattle.printing.proofs.say.Reads as say-reads
 
--- src/lib.rt:102:20
 piece-memory-requires : tie.Need-piece-memory-requires
 piece-memory-requires c κs = search needs
 
--- src/lib.rt:103:9
 least-requires : tie.Need-least-requires
 least-requires c κs = search needs
 
--- src/lib.rt:104:16
 slice-aggregate-put-digits : tie.Need-slice-aggregate-put-digits
 slice-aggregate-put-digits c = omega (arith, length-take (c .before .least .result) (now (c .before .before .before .before .before .args .bytes)))
 
--- src/lib.rt:104:33
 slice-aggregate-put-digits-2 : tie.Need-slice-aggregate-put-digits-2
 slice-aggregate-put-digits-2 c = search needs
 
--- src/lib.rt:104:5
 put-digits-requires : tie.Need-put-digits-requires
 put-digits-requires c κs = omega (arith, length-take (c .before .before .least .result) (now (c .before .before .before .before .before .before .args .bytes)))
 
--- src/lib.rt:105:26
 mul-text : tie.Need-mul-text
 mul-text c = search needs
 
--- src/lib.rt:105:18
 array-share-prefix-text : tie.Need-array-share-prefix-text
 array-share-prefix-text c = search needs
 
--- src/lib.rt:105:18
 slice-aggregate-say : tie.Need-slice-aggregate-say
 slice-aggregate-say c =
     omega (arith, length-take (c .before .before .before .before .before .before .least .result * 2) (c .before .before .before .put-digits .last .1 .0))
 
--- src/lib.rt:105:5
 say-requires : tie.Need-say-requires
 say-requires c κs = search needs
 
--- src/lib.rt:101:1
 same-length : tie.Need-same-length
 same-length c = search needs
 
--- src/lib.rt:101:1
 returns : tie.Need-returns
 returns c = search needs
 
