@@ -1,5 +1,5 @@
 //! The seeded generator: jobs by family, sheets in other arrangements, lent memories, blocks, cascades made by hand, such with one-byte
-//! rows, and lists of bank calls.
+//! rows, and lists of bank calls, also as text.
 
 mod arranged;
 mod blocks;
@@ -16,15 +16,17 @@ mod random;
 mod sheet;
 mod stop;
 mod stop_faults;
+mod texts;
 mod wide;
 
 pub use arranged::arranged;
 pub use blocks::{block, compiled, compiled_with_totals, damage, row_bytes, StoredBlock};
 pub use calls::calls;
-pub use cascades::{cascade, known_but, made, over_limit, Over, Rows, Shape};
+pub use cascades::{cascade, known_but, longest_in_text, made, over_limit, Over, Rows, Shape};
 pub use damaged::Fault;
 pub use one_byte::{at_most, damage_one_byte, low_bytes, one_byte, Room};
 pub use random::Random;
+pub use texts::{bad_line, call_line, passed_over, respaced, respelt, text, BAD_LINES, BAD_MEMORY};
 
 use crate::job::{Job, Lent, Node};
 use plain::Free;

@@ -2,6 +2,7 @@
 
 pub mod bank;
 pub mod book;
+pub mod call_lines;
 pub mod cases;
 pub mod fast;
 pub mod generate;

@@ -1,9 +1,11 @@
 //! The generator: same seed same job, undamaged families in order, each fault present, column counts as promised. Cells of many
-//! outputs and cascades made by hand are in the folder beside.
+//! outputs, cascades made by hand and lists as text are in the folder beside.
 
 mod forced;
 #[path = "generate/outputs.rs"]
 mod outputs;
+#[path = "generate/texts.rs"]
+mod texts;
 
 use forced::forced;
 use second::book::{well_formed, Book, Call, Said};

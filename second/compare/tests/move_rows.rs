@@ -1,13 +1,18 @@
 //! The proved program that moves the rows of a list of calls against the second one: every byte that both print of the same text. The
-//! lists are made in the folder beside.
+//! lists are made in the folder beside, where long texts are, too.
 
 #[path = "move_rows/lists.rs"]
 mod lists;
+#[path = "move_rows/long.rs"]
+mod long;
 
-use lists::{digits, list, respelt, text, Kind, BAD_LINES, BAD_MEMORY};
+use lists::{list, Kind};
+use second::call_lines::admit_line;
 use second::cases;
-use second::generate::{compiled, low_bytes, Random};
-use second::move_text::{printed, TEXT_BYTES};
+use second::generate::{
+    compiled, low_bytes, passed_over, respaced, respelt, text, Random, BAD_LINES, BAD_MEMORY,
+};
+use second::move_text::printed;
 use second::moves::Way;
 use second::run::bytes_of;
 use std::collections::BTreeMap;
@@ -139,8 +144,8 @@ fn spoilt_texts() {
             }
             match random.below(5) {
                 0 => text[place] = random.byte(),
-                1 => text[place] = random.pick(b" \n#-09afgAF:/`@G"),
-                2 => text.insert(place, random.pick(b" \n#-09afg")),
+                1 => text[place] = random.pick(b" \t\r\n#-09afgAF:/`@G"),
+                2 => text.insert(place, random.pick(b" \t\r\n#-09afg")),
                 3 => {
                     text.remove(place);
                 }
@@ -158,8 +163,23 @@ fn spoilt_texts() {
 fn single_lines() {
     let mut seen = Seen::default();
     let zeros = "0000 ".repeat(7);
-    let mut tried: Vec<String> = ["", "#", "# x", "step", "-", "0"].map(String::from).into();
-    tried.extend(BAD_LINES.iter().chain(&BAD_MEMORY).map(|&s| s.into()));
+    let random = &mut Random::new(4, SEED, 0);
+    let mut tried: Vec<String> = [
+        "",
+        "#",
+        "# x",
+        "step",
+        "-",
+        "0",
+        " ",
+        "\t",
+        "\r",
+        " #",
+        "#  x\ty\r",
+        "\r# \r",
+    ]
+    .map(String::from)
+    .into();
     for number in ["0", "1", "00001", "255", "256", "65535", "99999", "-1", "a"] {
         tried.push(format!("bank {number}"));
     }
@@ -173,20 +193,39 @@ fn single_lines() {
         tried.push(format!("latch {zeros}{word}"));
         tried.push(format!("latch {word} {}", zeros.trim_end()));
     }
+    let mut tried: Vec<Vec<u8>> = tried.into_iter().map(String::into_bytes).collect();
+    tried.extend(
+        BAD_LINES
+            .iter()
+            .chain(&BAD_MEMORY)
+            .map(|line| line.to_vec()),
+    );
+    tried.extend((0..60).map(|_| passed_over(random)));
     for line in &tried {
-        seen.both_ways(format!("memory 9\nbank 9\n{line}\nstep\n").as_bytes());
-        seen.both_ways(format!("memory 9\n{line}").as_bytes());
+        seen.both_ways(&[b"memory 9\nbank 9\n", &line[..], b"\nstep\n"].concat());
+        let spaced = respaced(random, line);
+        seen.both_ways(&[b"memory 9\n", &spaced[..], b"\n\nstep\n"].concat());
+        let last = random.pick(&[line, &spaced]);
+        seen.both_ways(&[b"memory 9\n", &last[..]].concat());
     }
     for memory in [
         "0", "1", "2", "9", "00009", "32767", "32768", "32769", "65534", "65535", "65536", "65537",
     ] {
-        for end in ["", "\n", "\n\n", "\nbank 1", "\nbank 1\n", "\nx", "\n\n\n"] {
+        for end in [
+            "",
+            "\n",
+            "\n\n",
+            "\nbank 1",
+            "\r\nbank 1\n",
+            " \nx",
+            "\t\n\n\n",
+        ] {
             seen.both_ways(format!("memory {memory}{end}").as_bytes());
         }
     }
     for line in &BAD_MEMORY {
         for end in ["", "\n", "\nbank 1\n"] {
-            seen.both_ways(format!("{line}{end}").as_bytes());
+            seen.both_ways(&[line, end.as_bytes()].concat());
         }
     }
     for byte in 0..=255 {
@@ -194,6 +233,9 @@ fn single_lines() {
         for (before, after) in [
             ("memory 9\n", "\nstep\n"),
             ("memory 9\nadmit 0", " -\n"),
+            ("memory 9\n# x", "y \n"),
+            ("memory 9\nstep", ""),
+            ("memory", "9\n"),
             ("memory ", "\n"),
         ] {
             let text = [before.as_bytes(), &byte, after.as_bytes()].concat();
@@ -212,85 +254,18 @@ fn broken_off() {
         (Way::Narrow, 64, wide.clone()),
         (Way::Widen, 32, low_bytes(&wide)),
     ] {
-        let block = format!("{} {}", digits(&records), digits(&rows));
+        let block = admit_line(&records, &rows);
         let text = format!(
-            "memory {memory}\n# a remark\n\nbank 4\nadmit {block}\nlatch{}\nstep\n\nadmit - -\n",
+            "memory {memory}\n# a remark\n\nbank 4\n{block}\nlatch{}\nstep\n\nadmit - -\n",
             " 00Fd".repeat(8)
         );
         for end in 0..=text.len() {
             seen.compare(way, &text.as_bytes()[..end]);
         }
+        let text = text.replace(' ', "\t ").replace('\n', " \r\n ");
+        for end in (0..=text.len()).step_by(3) {
+            seen.compare(way, &text.as_bytes()[..end]);
+        }
     }
     println!("broken off: {seen:?}");
-}
-
-/// As many row bytes to be widened as a text holds.
-#[test]
-fn most_bytes_printed() {
-    let mut seen = Seen::default();
-    // x1 to x12 and y1 in a cell, and x1 to x6 and y1 in a cell.
-    let cell = |inputs: u8| {
-        let mut records: Vec<u8> = (0..inputs).flat_map(|x| [x, 0, 0, 0]).collect();
-        records.extend([128, 1, 0, 0]);
-        let line =
-            |rows: &str| format!("admit {} {}\n", digits(&records), rows.repeat(1 << inputs));
-        (line("01"), line("0100"))
-    };
-    let (mut narrow, mut wide) = ("memory 32768\n".to_string(), "memory 65536\n".to_string());
-    for (one_byte, two_bytes) in [12, 6].map(cell) {
-        while narrow.len() + one_byte.len() < TEXT_BYTES {
-            narrow += &one_byte;
-            wide += &two_bytes;
-        }
-    }
-    let remark = "#".repeat(TEXT_BYTES - narrow.len());
-    narrow += &remark;
-    wide += &format!("{remark}\n");
-    seen.compare(Way::Widen, narrow.as_bytes());
-    assert!(proved(Way::Widen, narrow.as_bytes()) == wide.as_bytes());
-    println!("{} bytes printed: {seen:?}", wide.len());
-    assert!(wide.len() > 125_000);
-}
-
-/// Around the longest text: a remark, many lines, an admission, and first lines that can't be read.
-#[test]
-fn long_texts() {
-    let mut seen = Seen::default();
-    let filled = |head: &str, with: &str, length: usize| -> Vec<u8> {
-        let rest = with.bytes().cycle();
-        head.bytes().chain(rest).take(length).collect()
-    };
-    for length in [
-        TEXT_BYTES - 2,
-        TEXT_BYTES - 1,
-        TEXT_BYTES,
-        TEXT_BYTES + 1,
-        TEXT_BYTES + 2,
-        65_535,
-        65_536,
-        65_537,
-        70_000,
-        131_072,
-        1_000_000,
-    ] {
-        for (head, with) in [
-            ("memory 8\n#", "x"),
-            ("memory 8\nbank 1\n", "step\n"),
-            ("memory 8\n", "\n"),
-            ("memory 8\nadmit 00000000 ", "0"),
-            ("memory 8\nadmit ", "aF"),
-            ("memory 8\n", "admit - -\n"),
-            ("memory 8\nlatch", " 0000"),
-            ("memory 0", "0"),
-            ("", "\n"),
-        ] {
-            let mut text = filled(head, with, length);
-            seen.both_ways(&text);
-            text.pop();
-            text.push(b'\n');
-            seen.both_ways(&text);
-        }
-    }
-    println!("long: {seen:?}");
-    assert!(seen.lines["input"] > 100);
 }

@@ -1,27 +1,56 @@
-//! The proved program that runs a list of calls against the second one: what both print on the same text.
+//! The proved program that runs a list of calls against the second one: what both print on the same text. Long texts are in the folder
+//! beside.
 
-use second::book::Call;
-use second::generate::{block, calls, compiled, job, Family, Random, StoredBlock};
-use second::replay::{printed, TEXT_BYTES};
+#[path = "replay/long.rs"]
+mod long;
+
+use second::generate::{
+    bad_line, block, call_line, calls, compiled, job, passed_over, respaced, respelt, text, Family,
+    Random, StoredBlock, BAD_LINES, BAD_MEMORY,
+};
+use second::replay::printed;
 use second::run::output_of;
 use std::collections::BTreeMap;
-use std::fmt::Write;
 use std::path::PathBuf;
 
 const SEED: u64 = 5077;
 
-/// Runs the proved program on a text and compares; counts the first words of the lines printed.
-fn compare(text: &[u8], seen: &mut BTreeMap<String, u64>) {
+/// The most bytes of most texts.
+const SHORT: usize = 32_768;
+
+/// How often each kind of line was printed: a refusal by its number, a line that can't be read by what was expected.
+type Seen = BTreeMap<String, u64>;
+
+/// Runs the proved program on a text and compares.
+fn compare(text: &[u8], seen: &mut Seen) {
     let program = PathBuf::from(env!("CARGO_MANIFEST_DIR")).join("../../target/bin/bank_replay");
     let output = output_of(program, &[], text);
-    assert_eq!(output, printed(text), "{}", String::from_utf8_lossy(text));
+    let same = output == printed(text);
+    assert!(same, "{}", String::from_utf8_lossy(text));
     for line in output.lines() {
         let mut words = line.split(' ');
         let kind = match (words.next(), words.next()) {
             (Some("refused"), Some(number)) => number.to_string(),
+            (Some("line"), _) => format!("expected {}", words.nth(3).unwrap_or_default()),
             (word, _) => word.unwrap_or_default().to_string(),
         };
         *seen.entry(kind).or_default() += 1;
+    }
+}
+
+/// What must have been expected in some text.
+const EXPECTED: [&str; 6] = [
+    "expected memory",
+    "expected bank",
+    "expected admit",
+    "expected latch",
+    "expected step",
+    "expected bank,",
+];
+
+fn all_seen(kinds: &[&str], seen: &Seen) {
+    for kind in kinds {
+        assert!(seen.contains_key(*kind), "{kind} {seen:?}");
     }
 }
 
@@ -34,84 +63,92 @@ fn blocks(index: u64) -> Vec<StoredBlock> {
         .collect()
 }
 
-fn digits(bytes: &[u8]) -> String {
-    if bytes.is_empty() {
-        return "-".to_string();
-    }
-    bytes.iter().map(|byte| format!("{byte:02x}")).collect()
-}
-
-fn lines(limit: u8, list: &[Call]) -> String {
-    let mut text = format!("bank {limit}\n");
-    for call in list {
-        match call {
-            Call::Admit { records, rows } => {
-                writeln!(text, "admit {} {}", digits(records), digits(rows))
-            }
-            Call::Latch(words) => {
-                let words = words.map(|word| format!("{word:04X}"));
-                writeln!(text, "latch {}", words.join(" "))
-            }
-            Call::Step => writeln!(text, "step"),
-        }
-        .expect("text");
-    }
-    text
-}
-
-/// Texts of several lists each, as many as there is room for, and how many lists they hold.
-fn texts(lists: u64, mut each: impl FnMut(&str)) -> u64 {
-    let (mut text, mut held, mut random) = (String::new(), 0, Random::new(7, SEED, 0));
+/// Texts of several lists each, as lines of at most so many bytes in all.
+fn texts(lists: u64, most: usize, mut each: impl FnMut(Vec<Vec<u8>>)) {
+    let mut random = Random::new(7, SEED, 0);
+    let (mut lines, mut length, mut held) = (Vec::new(), 0, 0);
     for index in 0.. {
         if held == lists {
             break;
         }
         let (limit, memory, list) = calls(SEED, index, &blocks(index));
-        let more = lines(limit, &list);
-        if more.len() > TEXT_BYTES / 2 {
+        let capital = random.coin();
+        let more = list.iter().map(|call| call_line(call, capital));
+        let more: Vec<String> = [format!("bank {limit}")].into_iter().chain(more).collect();
+        let bytes: usize = more.iter().map(|line| line.len() + 1).sum();
+        if bytes > most / 2 {
             continue;
         }
-        if text.len() + more.len() > TEXT_BYTES || random.percent(10) {
-            each(&text);
-            text.clear();
+        if length + bytes > most - 20 || random.percent(10) && length > 0 {
+            each(std::mem::take(&mut lines));
+            length = 0;
         }
-        if text.is_empty() {
-            text = format!("memory {}\n", memory.min(65_536));
+        if length == 0 {
+            lines.push(format!("memory {}", memory.min(65_536)).into_bytes());
         }
-        text.push_str(&more);
+        lines.extend(more.into_iter().map(String::into_bytes));
+        length += bytes;
         held += 1;
     }
-    each(&text);
-    held
+    each(lines);
 }
 
+/// The lines with others between them: some that are passed over, and in some lists one that can't be read.
+fn with_others(random: &mut Random, lines: Vec<Vec<u8>>) -> Vec<Vec<u8>> {
+    let chance = random.pick(&[0, 5, 30]);
+    let mut more = Vec::new();
+    for line in lines {
+        more.push(line);
+        while random.percent(chance) {
+            more.push(passed_over(random));
+        }
+    }
+    if random.percent(3) {
+        more[0] = random.pick(&BAD_MEMORY).to_vec();
+    } else if random.percent(30) {
+        let place = random.within(1, more.len());
+        more.insert(place, bad_line(random));
+    }
+    more
+}
+
+/// Half of them in the plainest spelling, the others in any.
 #[test]
 fn lists_of_calls() {
-    let mut seen = BTreeMap::new();
-    let mut runs = 0;
-    let lists = texts(20_000, |text| {
-        compare(text.as_bytes(), &mut seen);
+    let (mut seen, mut runs) = (Seen::new(), 0);
+    let random = &mut Random::new(9, SEED, 0);
+    texts(20_000, SHORT, |lines| {
+        let whole = match random.coin() {
+            true => text(&lines),
+            false => {
+                let lines = with_others(random, lines);
+                respelt(random, &lines)
+            }
+        };
+        compare(&whole, &mut seen);
         runs += 1;
     });
-    println!("{lists} lists in {runs} texts: {seen:?}");
-    for number in ["11", "12", "13", "14", "went", "idle"] {
-        assert!(seen.contains_key(number), "{number}");
-    }
+    println!("lists in {runs} texts: {seen:?}");
+    all_seen(&["11", "12", "13", "14", "went", "idle"], &seen);
+    all_seen(&EXPECTED, &seen);
 }
 
 /// Texts with bytes changed, put in or left out.
 #[test]
 fn spoilt_texts() {
-    let mut random = Random::new(8, SEED, 0);
-    let mut seen = BTreeMap::new();
-    texts(4_000, |text| {
-        let mut text = text.as_bytes().to_vec();
+    let mut seen = Seen::new();
+    let random = &mut Random::new(8, SEED, 0);
+    texts(4_000, SHORT, |lines| {
+        let mut text = match random.coin() {
+            true => text(&lines),
+            false => respelt(random, &lines),
+        };
         for _ in 0..random.within(1, 3) {
             let place = random.below(text.len());
             match random.below(5) {
-                0 => text[place] = random.next() as u8,
-                1 => text[place] = random.pick(b" \n#-09afgAF:/`@G"),
-                2 => text.insert(place, random.pick(b" \n#-09afg")),
+                0 => text[place] = random.byte(),
+                1 => text[place] = random.pick(b" \t\r\n#-09afgAF:/`@G"),
+                2 => text.insert(place, random.pick(b" \t\r\n#-09afg")),
                 3 => {
                     text.remove(place);
                 }
@@ -121,19 +158,15 @@ fn spoilt_texts() {
         compare(&text, &mut seen);
     });
     println!("spoilt: {seen:?}");
-    assert!(seen["line"] > 100);
+    assert!(seen["expected admit"] > 100);
 }
 
-/// Every line that the form allows or nearly allows, after the first.
-#[test]
-fn single_lines() {
-    let mut seen = BTreeMap::new();
+/// Lines that the form allows or nearly allows.
+fn tried() -> Vec<Vec<u8>> {
     let zeros = "0000 ".repeat(7);
-    let mut tried: Vec<String> = [
-        "", "#", "# x", " ", "step", "step ", "stepp", "bank", "memory 1",
-    ]
-    .map(String::from)
-    .to_vec();
+    let mut tried: Vec<String> = ["", "#", "# x", " ", "\t", "\r", " #", "\r\t# x", "step"]
+        .map(String::from)
+        .to_vec();
     for number in [
         "", "0", "1", "00001", "255", "256", "65535", "65536", "99999", "100000", "-1", "1 ", "a",
     ] {
@@ -151,54 +184,85 @@ fn single_lines() {
         tried.push(format!("latch {zeros}{word}"));
         tried.push(format!("latch {word} {}", zeros.trim_end()));
     }
-    for line in &tried {
-        compare(
-            format!("memory 9\nbank 9\n{line}\nstep\n").as_bytes(),
-            &mut seen,
-        );
-        compare(format!("memory 9\n{line}").as_bytes(), &mut seen);
-        compare(line.as_bytes(), &mut seen);
-    }
-    for memory in [
-        "0", "1", "32768", "32769", "65535", "65536", "65537", "99999", "00009", "000009", "", "x",
-        "9 ",
-    ] {
-        compare(format!("memory {memory}\nbank 1\n").as_bytes(), &mut seen);
-    }
-    for byte in 0..=255u8 {
-        compare(
-            &[b"memory 9\nbank ", &[byte][..], b"\n"].concat(),
-            &mut seen,
-        );
-        compare(
-            &[b"memory 9\nbank 9\nadmit 0", &[byte][..], b" -\n"].concat(),
-            &mut seen,
-        );
-    }
-    println!(
-        "{} lines, each in three texts, and others: {seen:?}",
-        tried.len()
-    );
+    let bad = BAD_LINES.iter().map(|line| line.to_vec());
+    tried
+        .into_iter()
+        .map(String::into_bytes)
+        .chain(bad)
+        .collect()
 }
 
-/// The stored input, broken off at each of its bytes, and long texts.
+/// Each of them after a good first line, as the last one without a newline, as the first one, and with other blanks.
 #[test]
-fn broken_off_and_long() {
-    let mut seen = BTreeMap::new();
+fn single_lines() {
+    let mut seen = Seen::new();
+    let random = &mut Random::new(10, SEED, 0);
+    let tried = tried();
+    for line in &tried {
+        compare(
+            &[b"memory 9\nbank 9\n", &line[..], b"\nstep\n"].concat(),
+            &mut seen,
+        );
+        compare(&[b"memory 9\n", &line[..]].concat(), &mut seen);
+        compare(line, &mut seen);
+        let spaced = respaced(random, line);
+        compare(
+            &[b"memory 9\n", &spaced[..], b"\nstep\n"].concat(),
+            &mut seen,
+        );
+    }
+    println!("{} lines, each in four texts: {seen:?}", tried.len());
+    all_seen(&EXPECTED, &seen);
+}
+
+#[test]
+fn first_lines() {
+    let mut seen = Seen::new();
+    let random = &mut Random::new(11, SEED, 0);
+    for memory in [
+        "0", "1", "32768", "32769", "65535", "65536", "65537", "99999", "00009", "000009", "", "x",
+        "9 ", "9 9",
+    ] {
+        let line = format!("memory {memory}").into_bytes();
+        let spaced = respaced(random, &line);
+        for line in [line, spaced] {
+            compare(&[&line[..], b"\nbank 1\n"].concat(), &mut seen);
+        }
+    }
+    for line in BAD_MEMORY {
+        for after in ["", "\n", "\r\nmemory 9\n"] {
+            compare(&[line, after.as_bytes()].concat(), &mut seen);
+        }
+    }
+    println!("first lines: {seen:?}");
+}
+
+#[test]
+fn every_byte() {
+    let mut seen = Seen::new();
+    for byte in 0..=255u8 {
+        for (before, after) in [
+            ("memory 9\n", "\nbank 1\n"),
+            ("memory 9\nbank ", "\n"),
+            ("memory 9\nbank", "9\n"),
+            ("memory 9\nbank 9\nadmit 0", " -\n"),
+            ("memory 9\nbank 9\nstep", ""),
+        ] {
+            let text = [before.as_bytes(), &[byte], after.as_bytes()].concat();
+            compare(&text, &mut seen);
+        }
+    }
+    println!("every byte: {seen:?}");
+}
+
+/// The stored input, broken off at each of its bytes.
+#[test]
+fn broken_off() {
+    let mut seen = Seen::new();
     let stored = PathBuf::from(env!("CARGO_MANIFEST_DIR")).join("../../crates/bank_replay/stdin");
     let text = std::fs::read(stored).expect("the stored input");
     for end in 0..=text.len() {
         compare(&text[..end], &mut seen);
-    }
-    let steps = |length: usize| {
-        let mut text = b"memory 0\nbank 1\n".to_vec();
-        text.extend(b"step\n".iter().cycle().take(length - text.len()));
-        text
-    };
-    for length in [
-        32_766, 32_767, 32_768, 32_769, 40_000, 65_535, 65_536, 70_000,
-    ] {
-        compare(&steps(length), &mut seen);
     }
     println!("{} bytes: {seen:?}", text.len());
 }

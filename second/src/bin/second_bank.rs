@@ -1,6 +1,7 @@
 //! Runs the list of bank calls on standard input and prints a line for each, as `second::replay` says.
 
-use second::replay::{printed, TEXT_BYTES};
+use second::call_lines::TEXT_BYTES;
+use second::replay::printed;
 use std::io::{self, Read, Write};
 
 fn main() {

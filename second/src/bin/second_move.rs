@@ -1,7 +1,8 @@
 //! Prints the list of bank calls on standard input with the rows of its blocks moved, as `second::move_text` says. Argument: `widen`
 //! or `narrow`.
 
-use second::move_text::{printed, TEXT_BYTES};
+use second::call_lines::TEXT_BYTES;
+use second::move_text::printed;
 use second::moves::Way;
 use std::io::{self, Read, Write};
 use std::process::ExitCode;

@@ -282,6 +282,19 @@ fn largest(random: &mut Random) -> Vec<u8> {
     records
 }
 
+/// 31,744 rows: of well-formed cascades with fewer rows than the largest, whose 65,536 bytes no text holds, one of the longest.
+pub fn longest_in_text(seed: u64, index: u64) -> StoredBlock {
+    let random = &mut Random::new(592, seed, index);
+    let (inputs, outputs) = variables(random);
+    let mut records = Vec::new();
+    cell(&mut records, &inputs, 12);
+    for (output, rails) in outputs.iter().zip([12, 12, 12, 12, 12, 11, 10, 0]) {
+        cell(&mut records, &[*output], rails);
+    }
+    let rows = filled(random, &records, Rows::Random);
+    (records, row_bytes(&rows))
+}
+
 /// The bits of a cell's rows.
 fn most(cell: &Cell) -> u16 {
     ((1u32 << cell.output_count()) - 1) as u16

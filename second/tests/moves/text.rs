@@ -2,7 +2,11 @@
 
 use super::{moved, of_outputs, A_NARROW, A_RECORDS, A_WIDE, SEED};
 use second::book::Call;
-use second::generate::{block, calls, row_bytes, StoredBlock};
+use second::call_lines::admit_line as admit;
+use second::generate::{
+    bad_line, block, call_line, calls, respaced, row_bytes, Random, StoredBlock, BAD_LINES,
+    BAD_MEMORY,
+};
 use second::move_text::printed;
 use second::moves::Way;
 use second::run::output_of;
@@ -10,15 +14,34 @@ use std::process::Command;
 
 const PROGRAM: &str = env!("CARGO_BIN_EXE_second_move");
 
-fn digits(bytes: &[u8]) -> String {
-    match bytes {
-        [] => "-".to_string(),
-        _ => bytes.iter().map(|byte| format!("{byte:02x}")).collect(),
-    }
+fn not_understood(place: usize, expected: &str) -> String {
+    format!("line {place}: not understood, expected {expected}\n")
 }
 
-fn admit(records: &[u8], rows: &[u8]) -> String {
-    format!("admit {} {}", digits(records), digits(rows))
+fn first_not_understood(way: Way) -> String {
+    let most = match way {
+        Way::Widen => 32_768,
+        Way::Narrow => 65_536,
+    };
+    not_understood(
+        1,
+        &format!("memory N, where N is one to five digits and at most {most}"),
+    )
+}
+
+/// What is expected of a line by how it begins.
+fn expected(line: &[u8]) -> &'static str {
+    let begin = String::from_utf8_lossy(line);
+    let begin = begin.trim_ascii_start();
+    match begin {
+        _ if begin.starts_with("bank") => "bank S, where S is one to five digits and at most 65535",
+        _ if begin.starts_with("admit") => {
+            "admit RECORDS ROWS, each in base 16, two digits a byte and at most 65535 bytes, or - for none"
+        }
+        _ if begin.starts_with("latch") => "latch and eight words of four digits in base 16",
+        _ if begin.starts_with("step") => "step and nothing after it",
+        _ => "bank, admit, latch or step",
+    }
 }
 
 /// What both print of a text; it must be text.
@@ -28,16 +51,11 @@ fn both(way: Way, text: &[u8]) -> String {
     output
 }
 
-fn latch(words: [u16; 8]) -> String {
-    let words = words.map(|word| format!("{word:04x}"));
-    format!("latch {}", words.join(" "))
-}
-
 /// Case A's block twice, a scan, and lines that stay.
 fn list(memory: usize, admit: &str) -> String {
     format!(
         "memory {memory}\n# memory 5\n\nbank 4\n{admit}\nlatch 000d fffD 0000 0000 0000 0000 0000 ffff\nstep\n\
-         {admit}\n#admit - -\nbank 00000\n#\n\n\nbank 65535\n# \r\nlatch {0} {0} {0} {0} {0} {0} {0} {0}\nstep\n",
+         {admit}\n#admit - -\nbank 00000\n#\n\n\nbank 65535\n# x\nlatch {0} {0} {0} {0} {0} {0} {0} {0}\nstep\n",
         "aBcD"
     )
 }
@@ -89,116 +107,134 @@ fn first_lines() {
         ("99999", None, None),
         ("000007", None, None),
         ("", None, None),
-        ("7 ", None, None),
-        (" 7", None, None),
+        ("7 ", Some(14), Some(3)),
+        (" 7", Some(14), Some(3)),
+        ("\t 7\r", Some(14), Some(3)),
+        ("7 7", None, None),
         ("-1", None, None),
         ("+1", None, None),
         ("x", None, None),
-        ("7\r", None, None),
     ] {
         for (way, moved) in [(Way::Widen, up), (Way::Narrow, back)] {
             for (ending, step) in [("", ""), ("\n", ""), ("\nstep", "step\n"), ("\n\n", "\n")] {
                 let expected = match moved {
                     Some(bytes) => format!("memory {bytes}\n{step}"),
-                    None => "line 1: not understood\n".to_string(),
+                    None => first_not_understood(way),
                 };
                 let text = format!("memory {number}{ending}");
                 assert_eq!(both(way, text.as_bytes()), expected, "{text:?}");
             }
         }
     }
-    for text in [
-        "",
-        "\n",
-        "memory",
-        "Memory 1",
-        " memory 1",
-        "step\nmemory 1\n",
-        "#\n",
-    ] {
-        for way in Way::ALL {
-            assert_eq!(both(way, text.as_bytes()), "line 1: not understood\n");
+    for line in BAD_MEMORY {
+        for after in ["", "\n", "\nmemory 1\n"] {
+            for way in Way::ALL {
+                let text = [line, after.as_bytes()].concat();
+                assert_eq!(both(way, &text), first_not_understood(way), "{text:?}");
+            }
         }
+    }
+    for way in Way::ALL {
+        let text = " \tmemory\t\r00008 \r\nstep";
+        let expected = format!("memory {}\nstep\n", way.row_bytes(8));
+        assert_eq!(both(way, text.as_bytes()), expected);
     }
 }
 
 #[test]
 fn lines_that_cannot_be_read() {
-    let admissions = [
-        "", " ", "-", "- ", " -", "- - ", "-  -", " - -", "- - -", "-- -", "- --", "0 -", "- 0",
-        "000 -", "0g -", "- g0", "-0 -", "00 00\r", "00 0x", "00,00", "00 00 00", "+1 00", "é -",
-    ];
-    let mut lines: Vec<String> = admissions.map(|words| format!("admit {words}")).to_vec();
-    let seven = "0000 ".repeat(7);
-    lines.extend(
-        ["", "000", "00000", "000g", "0000 ", "0000 0000"].map(|w| format!("latch {seven}{w}")),
-    );
-    lines.extend(["", "65536", "000001", "1 ", " 1", "-1", "x"].map(|n| format!("bank {n}")));
-    lines.extend(
-        [
-            "admit",
-            "admits - -",
-            " admit - -",
-            "Admit - -",
-            "memory 7",
-            "memory x",
-            "step ",
-            "step \r",
-            "step\r",
-            "steps",
-            "STEP",
-            " ",
-            " #",
-            " step",
-            "\r",
-            "last",
-            "bank",
-            "latch",
-            "refused 12",
-            "refused 15",
-            "ok",
-            "line 3: not understood",
-            "widen",
-            "narrow",
-        ]
-        .map(String::from),
-    );
+    let random = &mut Random::new(3, SEED, 0);
+    let mut lines: Vec<Vec<u8>> = BAD_LINES.map(<[u8]>::to_vec).to_vec();
+    lines.extend((0..200).map(|_| bad_line(random)));
     for line in lines {
+        let spelt = match random.coin() {
+            true => respaced(random, &line),
+            false => line.clone(),
+        };
         for way in Way::ALL {
-            let text = format!("memory 2\nadmit 00 00\n{line}\nadmit 00 00\nx\n");
             let memory = way.row_bytes(2);
-            let expected = format!("memory {memory}\nrefused 12\nline 3: not understood\n");
-            assert_eq!(both(way, text.as_bytes()), expected, "{line:?}");
-            let text = format!("memory 2\n\n#\nstep\n{line}");
-            let expected = format!("memory {memory}\n\n#\nstep\nline 5: not understood\n");
-            assert_eq!(both(way, text.as_bytes()), expected, "{line:?}");
+            let text = [
+                b"memory 2\nadmit 00 00\n",
+                &spelt[..],
+                b"\nadmit 00 00\nx\n",
+            ]
+            .concat();
+            let told = not_understood(3, expected(&line));
+            let output = format!("memory {memory}\nrefused 12\n{told}");
+            assert_eq!(both(way, &text), output, "{line:?}");
+            let text = [b"memory 2\n\n#\nstep\n", &spelt[..]].concat();
+            let told = not_understood(5, expected(&line));
+            let output = format!("memory {memory}\n\n#\nstep\n{told}");
+            assert_eq!(both(way, &text), output, "{line:?}");
         }
-    }
-    for way in Way::ALL {
-        let memory = way.row_bytes(2);
-        let expected = format!("memory {memory}\nline 2: not understood\n");
-        assert_eq!(printed(b"memory 2\n\xFF\nstep\n", way), expected.as_bytes());
-        assert_eq!(printed(b"memory 2\nstep\0\n", way), expected.as_bytes());
     }
 }
 
-/// Up to 65,528 bytes are read, whatever they hold; a final newline counts.
+/// Every line but an admission keeps its words as they are spelt.
+#[test]
+fn blanks() {
+    let zeros = " 00aF".repeat(8);
+    for (line, moved) in [
+        ("", ""),
+        (" ", ""),
+        ("\t\r ", ""),
+        ("\r", ""),
+        ("#", "#"),
+        ("#\r", "#"),
+        (" \t#", "#"),
+        ("#  x\ty \r", "# x y"),
+        ("#\t# ", "# #"),
+        ("\r#a  b\r\rc", "#a b c"),
+        ("# admit  00 00", "# admit 00 00"),
+        ("# \u{b}\u{0}  é", "# \u{b}\u{0} é"),
+        ("step", "step"),
+        (" step\r", "step"),
+        ("bank\t \t00009", "bank 00009"),
+        ("\tadmit\r-   -", "refused 12"),
+        (&format!(" latch{zeros}\r"), &format!("latch{zeros}")),
+        (
+            &format!("latch{}", zeros.replace(' ', "\t  ")),
+            &format!("latch{zeros}"),
+        ),
+    ] {
+        for way in Way::ALL {
+            let memory = way.row_bytes(8);
+            let text = format!("memory 8\r\n{line}\nstep\r\n{line}\n");
+            let output = format!("memory {memory}\n{moved}\nstep\n{moved}\n");
+            assert_eq!(both(way, text.as_bytes()), output, "{line:?}");
+            // A last line that has bytes is one also without its newline.
+            let text = format!("memory 8\n{line}");
+            let last = match line {
+                "" => String::new(),
+                _ => format!("{moved}\n"),
+            };
+            let output = format!("memory {memory}\n{last}");
+            assert_eq!(both(way, text.as_bytes()), output, "{line:?}");
+        }
+    }
+    let upper = admit(&A_RECORDS, &A_NARROW)[6..]
+        .to_uppercase()
+        .replace(' ', "\t\r");
+    let text = format!("memory 8\n\r admit  {upper} \r\n");
+    let output = format!("memory 16\n{}\n", admit(&A_RECORDS, &A_WIDE));
+    assert_eq!(both(Way::Widen, text.as_bytes()), output);
+}
+
+/// Up to 1,048,576 bytes are read, whatever they hold; a final newline counts.
 #[test]
 fn long_texts() {
     for (length, read) in [
-        (65_527, true),
-        (65_528, true),
-        (65_529, false),
-        (65_530, false),
-        (65_536, false),
-        (200_000, false),
+        (1_048_575, true),
+        (1_048_576, true),
+        (1_048_577, false),
+        (2_000_000, false),
     ] {
         for way in Way::ALL {
             let check = |text: &str, expected: String| {
                 assert_eq!(text.len(), length);
-                let over = "input over 65528 bytes\n".to_string();
+                let over = "input over 1048576 bytes\n".to_string();
                 let expected = if read { expected } else { over };
-                assert_eq!(both(way, text.as_bytes()), expected);
+                assert!(both(way, text.as_bytes()) == expected);
             };
             let memory = format!("memory {}\n", way.row_bytes(7));
             for last in ["\n", "x"] {
@@ -206,13 +242,33 @@ fn long_texts() {
                 let expected = format!("{memory}{}\n", remark.trim_end());
                 check(&format!("memory 7\n{remark}"), expected);
             }
-            let zeros = "0".repeat(length - 19);
-            let expected = match zeros.len() % 2 {
-                0 => format!("{memory}refused 12\n"),
-                _ => format!("{memory}line 2: not understood\n"),
-            };
-            check(&format!("memory 7\nadmit 00 {zeros}\n"), expected);
-            check(&"x".repeat(length), "line 1: not understood\n".to_string());
+            let blanks = " ".repeat(length - 13);
+            check(
+                &format!("memory 7\nstep{blanks}"),
+                format!("{memory}step\n"),
+            );
+            check(&"x".repeat(length), first_not_understood(way));
+        }
+    }
+    // Calls are not counted.
+    let steps = "step\n".repeat(100_000);
+    let text = format!("memory 0\n{steps}");
+    assert!(both(Way::Widen, text.as_bytes()) == text);
+}
+
+/// Words of at most 65,535 bytes can be read.
+#[test]
+fn long_admissions() {
+    for (count, told) in [
+        (65_535, "refused 12\n".to_string()),
+        (65_536, not_understood(2, expected(b"admit"))),
+    ] {
+        let bytes = "00".repeat(count);
+        for words in [format!("{bytes} -"), format!("- {bytes}")] {
+            for way in Way::ALL {
+                let text = format!("memory 0\nadmit {words}\n");
+                assert_eq!(both(way, text.as_bytes()), format!("memory 0\n{told}"));
+            }
         }
     }
 }
@@ -233,14 +289,11 @@ fn lists_back_and_up() {
         let (mut text, mut expected) = (head(2 * memory), head(memory));
         let mut movable = text.clone();
         for call in list {
-            let (line, line_after) = match call {
-                Call::Admit { records, rows } => {
-                    let line = admit(&records, &rows);
-                    let after = moved(Way::Narrow, &(records, rows));
-                    (line, after.map(|(records, rows)| admit(&records, &rows)))
-                }
-                Call::Latch(words) => (latch(words), Ok(latch(words))),
-                Call::Step => ("step".to_string(), Ok("step".to_string())),
+            let line = call_line(&call, false);
+            let line_after = match call {
+                Call::Admit { records, rows } => moved(Way::Narrow, &(records, rows))
+                    .map(|(records, rows)| admit(&records, &rows)),
+                _ => Ok(line.clone()),
             };
             text += &format!("{line}\n");
             match line_after {

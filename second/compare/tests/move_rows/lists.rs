@@ -2,57 +2,15 @@
 
 use super::SEED;
 use second::book::Call;
+use second::call_lines::TEXT_BYTES;
 use second::generate::{
-    at_most, block, calls, cascade, compiled, damage, damage_one_byte, job, low_bytes, made,
-    Family, Random, Rows, Shape, StoredBlock,
+    at_most, bad_line, block, call_line, calls, cascade, compiled, damage, damage_one_byte, job,
+    low_bytes, made, passed_over, Family, Random, Rows, Shape, StoredBlock, BAD_MEMORY,
 };
-use second::move_text::TEXT_BYTES;
 use second::moves::Way;
 
-/// First lines and others that can't be read.
-pub const BAD_MEMORY: [&str; 14] = [
-    "",
-    "#",
-    "memory",
-    "memory ",
-    "memory  8",
-    "memory 8 ",
-    "memory 000008",
-    "memory 65537",
-    "memory 99999",
-    "memory -8",
-    "memory 8\r",
-    "Memory 8",
-    " memory 8",
-    "bank 8",
-];
-pub const BAD_LINES: [&str; 25] = [
-    " ",
-    " #",
-    "\r",
-    "step ",
-    "step\r",
-    "steps",
-    "Step",
-    "bank",
-    "bank ",
-    "bank 65536",
-    "bank 000001",
-    "bank 1 ",
-    "memory 8",
-    "refused 12",
-    "line 1: not understood",
-    "admit",
-    "admit -",
-    "admit - - ",
-    "admit  - -",
-    "admit 0 -",
-    "admit - 0g",
-    "admit 00 00 00",
-    "latch 0000 0000 0000 0000 0000 0000 0000",
-    "latch 0000 0000 0000 0000 0000 0000 0000 000",
-    "latch 0000 0000 0000 0000 0000 0000 0000 0000 0000",
-];
+/// The most bytes of a list that is not too long: few lists come near the longest text, which other tests look at.
+const SHORT: usize = 65_528;
 
 /// What a list holds beside calls, remarks and empty lines.
 #[derive(Clone, Copy, PartialEq, Eq)]
@@ -61,13 +19,6 @@ pub enum Kind {
     Movable,
     /// Blocks that can't, one list in four a line that can't be read, and some lists are too long.
     Any,
-}
-
-pub fn digits(bytes: &[u8]) -> String {
-    match bytes {
-        [] => "-".to_string(),
-        _ => bytes.iter().map(|byte| format!("{byte:02x}")).collect(),
-    }
 }
 
 /// Well-formed blocks, with two-byte rows: compiled and made by hand, and more with at most 8 outputs a cell for lists that go up, with
@@ -126,39 +77,16 @@ fn line_of(
     call: Call,
     blocks: &[StoredBlock],
 ) -> Option<String> {
-    Some(match call {
-        Call::Admit { records, rows } => {
-            let block = (records, rows);
-            let whole = blocks.contains(&block);
-            let block = formed(random, way, block, whole);
-            if kind == Kind::Movable && refused(way, &block) {
-                return None;
-            }
-            format!("admit {} {}", digits(&block.0), digits(&block.1))
-        }
-        Call::Latch(words) => {
-            let capital = random.coin();
-            let words = words.map(|word| match capital {
-                true => format!("{word:04X}"),
-                false => format!("{word:04x}"),
-            });
-            format!("latch {}", words.join(" "))
-        }
-        Call::Step => "step".to_string(),
-    })
-}
-
-/// A remark of any bytes, or no call.
-fn passed_over(random: &mut Random) -> Vec<u8> {
-    let count = random.within(0, 30);
-    let mut any = random.bytes(count);
-    any.retain(|&byte| byte != b'\n');
-    match random.below(4) {
-        0 => Vec::new(),
-        1 => b"# admit - -".to_vec(),
-        2 => b"#".to_vec(),
-        _ => [b"#".to_vec(), any].concat(),
+    let Call::Admit { records, rows } = call else {
+        return Some(call_line(&call, random.coin()));
+    };
+    let block = (records, rows);
+    let whole = blocks.contains(&block);
+    let (records, rows) = formed(random, way, block, whole);
+    if kind == Kind::Movable && refused(way, &(records.clone(), rows.clone())) {
+        return None;
     }
+    Some(call_line(&Call::Admit { records, rows }, false))
 }
 
 /// The lines of a list whose rows go this way; the first one's number is even going back. As the program spells them but for bad ones.
@@ -191,58 +119,21 @@ pub fn list(way: Way, kind: Kind, index: u64) -> Vec<Vec<u8>> {
         lines.extend(line.map(String::into_bytes));
     }
     if bad && random.percent(30) {
-        lines[0] = random.pick(&BAD_MEMORY).into();
+        lines[0] = random.pick(&BAD_MEMORY).to_vec();
     } else if bad {
         let place = random.within(1, lines.len());
-        lines.insert(place, random.pick(&BAD_LINES).into());
+        lines.insert(place, bad_line(random));
     }
     if long {
         lines.push(vec![b'#'; TEXT_BYTES]);
         return lines;
     }
-    let most = match (way, kind) {
-        (Way::Widen, Kind::Movable) => TEXT_BYTES / 2,
-        _ => TEXT_BYTES,
-    };
     let mut length = 0;
     lines.retain(|line| {
         let longer = length + line.len() + 1;
-        let fits = longer <= most;
+        let fits = longer <= SHORT;
         length = if fits { longer } else { length };
         fits
     });
     lines
-}
-
-/// The lines as text.
-pub fn text(lines: &[Vec<u8>]) -> Vec<u8> {
-    lines
-        .iter()
-        .flat_map(|line| [&line[..], b"\n"].concat())
-        .collect()
-}
-
-/// The same spelt in other ways: bytes with some or all digits in capitals, zeros before the first line's number, no newline at the end.
-pub fn respelt(random: &mut Random, lines: &[Vec<u8>]) -> Vec<u8> {
-    let mut lines = lines.to_vec();
-    if let Some(number) = lines[0].strip_prefix(b"memory ") {
-        let zeros = random.within(0, 5usize.saturating_sub(number.len()));
-        lines[0] = [b"memory ", &b"00000"[..zeros], number].concat();
-    }
-    for line in &mut lines {
-        let capitals = random.pick(&[0, 0, 50, 100]);
-        if let Some(digits) = line.strip_prefix(b"admit ") {
-            let turned = digits.iter().map(|digit| match random.percent(capitals) {
-                true => digit.to_ascii_uppercase(),
-                false => *digit,
-            });
-            *line = b"admit ".iter().copied().chain(turned).collect();
-        }
-    }
-    let mut text = text(&lines);
-    // Without its newline an empty line is none.
-    if random.percent(40) && !text.ends_with(b"\n\n") {
-        text.pop();
-    }
-    text
 }
