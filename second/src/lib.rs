@@ -1,6 +1,7 @@
 //! The second compiler: written from the scope document alone, to hold the proved one against.
 
 pub mod bank;
+pub mod block_text;
 pub mod book;
 pub mod call_lines;
 pub mod cases;

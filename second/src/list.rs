@@ -2,7 +2,26 @@
 
 use crate::job::{Answer, Job, Lent, Node};
 use crate::stored::{row_value, rows_in, MAX_ROWS, ROW_BYTES};
+use crate::{fast, plain};
+use std::ffi::OsString;
 use std::fmt::Write;
+
+/// The compiler of this name: `plain`, or `fast` where it is that.
+pub fn compiler(name: Option<OsString>) -> fn(&Job, &mut Lent) -> Answer {
+    match name {
+        Some(name) if name == "fast" => fast::compile,
+        _ => plain::compile,
+    }
+}
+
+/// A job as the bytes that `split` reads.
+pub fn joined(job: &Job) -> Vec<u8> {
+    let numbers = [job.inputs, job.outputs, job.cell_inputs, job.cell_outputs];
+    let mut bytes: Vec<u8> = numbers.iter().map(|&n| n as u8).collect();
+    bytes.extend(&job.order);
+    bytes.extend(&job.sheet);
+    bytes
+}
 
 /// n, m, K and L, a byte each, 0 where the input has ended; the order, n + m bytes or what is left
 /// of them; all the rest is the sheet.
@@ -24,7 +43,7 @@ pub fn split(input: &[u8]) -> Job {
 
 /// Memory enough for every job: 19 heights of at most 512 columns and the top, 20 records, all
 /// usable rows.
-fn enough() -> Lent {
+pub(crate) fn enough() -> Lent {
     Lent {
         nodes: vec![Node::default(); 10_240],
         records: vec![0; 80],

@@ -2,18 +2,10 @@
 
 use second::cases;
 use second::generate::{job, Family};
-use second::job::Job;
+use second::list::joined as raw;
 use second::run::output_of as run;
 use second::{fast, list, plain};
 use std::process::Command;
-
-fn raw(job: &Job) -> Vec<u8> {
-    let numbers = [job.inputs, job.outputs, job.cell_inputs, job.cell_outputs];
-    let mut bytes: Vec<u8> = numbers.iter().map(|&n| n as u8).collect();
-    bytes.extend(&job.order);
-    bytes.extend(&job.sheet);
-    bytes
-}
 
 const LIST: &str = env!("CARGO_BIN_EXE_second_list");
 const BANK: &str = env!("CARGO_BIN_EXE_second_bank");

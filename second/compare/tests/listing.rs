@@ -1,7 +1,7 @@
 //! The proved listing program against the second one: what both print on the same standard input.
 
 use second::generate::{arranged, job, Family};
-use second::job::Job;
+use second::list::joined as bytes;
 use second::run::output_of;
 use std::collections::BTreeMap;
 use std::path::PathBuf;
@@ -12,14 +12,6 @@ fn program(place: &str) -> PathBuf {
     PathBuf::from(env!("CARGO_MANIFEST_DIR"))
         .join("../..")
         .join(place)
-}
-
-fn bytes(job: &Job) -> Vec<u8> {
-    let numbers = [job.inputs, job.outputs, job.cell_inputs, job.cell_outputs];
-    let mut bytes: Vec<u8> = numbers.iter().map(|&n| n as u8).collect();
-    bytes.extend(&job.order);
-    bytes.extend(&job.sheet);
-    bytes
 }
 
 /// Both must print the same; counts the first words printed.
