@@ -17,7 +17,7 @@ use Rattle.laws.proofs.Lists.{length-tab}
 use Rattle.laws.proofs.Filled.{length-written, written-sets, written-none, written-next}
 use Rattle.laws.proofs.Puts.{putsAt-sets}
 use Rattle.call_text.specs.Words.{begins, decimal, isNumber, isHex, hexByte, isBytes, bytesOf}
-use Rattle.call_text.specs.Lines.{Line, lineOf, low, high, bankLine, wordPlace, isWordByte, latchLine, spaceIn, admitLine, stepWord, bankWord, latchWord, admitWord, memoryWord, lineIn}
+use Rattle.call_text.specs.Lines.{Line, lineOf, low, high, bankLine, wordPlace, isWordByte, latchLine, spaceIn, admission, admitLine, stepWord, bankWord, latchWord, admitWord, memoryWord, lineIn}
 use Rattle.laws.proofs.Tests.{within-has}
 use Rattle.call_text.proofs.WordLaws.{bytes-short, bank-long, latch-long, admit-long}
 
@@ -155,9 +155,6 @@ unfolding bytesOf
 length-bytes l = length-tab (λ i. hexByte l (2 * i)) (length l / 2)
 
 -- an admission
-abbrev pub admission : List ℕ → List ℕ → List ℕ
-admission r q = 1 ∷ low (length r) ∷ high (length r) ∷ low (length q) ∷ high (length q) ∷ 0 ∷ (r ++ q)
-
 pub space-found : (l : List ℕ) (n : ℕ) → n ≡ least (length l) (λ i. eqb (getD l i 0) 32) → n ≡ spaceIn l
 unfolding spaceIn
 space-found l n e = e

@@ -1,6 +1,6 @@
 -- Laws that more than one source file needs, or that other crates may cite: those are `pub`. Laws of one source file stand in its folder.
-mod CallLaws
-mod LineLaws
+pub mod CallLaws
+pub mod LineLaws
 mod TidyLaws
 mod UnreadLaws
 mod WordLaws

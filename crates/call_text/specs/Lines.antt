@@ -50,13 +50,15 @@ unfoldable pub spaceIn : List ℕ → ℕ
 spaceIn l = least (length l) (λ i. eqb (getD l i 0) 32)
 
 -- Q's number has three bytes; texts of bytes are so short that the third is 0
+abbrev pub admission : List ℕ → List ℕ → List ℕ
+admission R Q = 1 ∷ low (length R) ∷ high (length R) ∷ low (length Q) ∷ high (length Q) ∷ 0 ∷ (R ++ Q)
+
 unfoldable pub admitLine : List ℕ → Line
 admitLine l =
     let p = spaceIn l in
     let R = bytesOf (take p l) in
     let Q = bytesOf (drop (p + 1) l) in
-    lineOf (isBytes (take p l) && isBytes (drop (p + 1) l))
-    (1 ∷ low (length R) ∷ high (length R) ∷ low (length Q) ∷ high (length Q) ∷ 0 ∷ (R ++ Q))
+    lineOf (isBytes (take p l) && isBytes (drop (p + 1) l)) (admission R Q)
 
 -- "step", "bank ", "latch", "admit ", "memory "
 abbrev pub stepWord : List ℕ

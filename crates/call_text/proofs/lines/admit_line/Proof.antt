@@ -10,7 +10,8 @@ use lib.Seq.{length-take-le}
 use borrow.Author.Tests.{not-true, not-false}
 use Rattle.laws.proofs.Cases.{and-split}
 use Rattle.call_text.specs.Words.{isBytes, bytesOf}
-use Rattle.call_text.proofs.CallLaws.{rest-all, rest-long, bad-line, good-line, admission, space-found, admit-none, admit-bad, admit-good, length-admission}
+use Rattle.call_text.specs.Lines.{admission}
+use Rattle.call_text.proofs.CallLaws.{rest-all, rest-long, bad-line, good-line, space-found, admit-none, admit-bad, admit-good, length-admission}
 use borrow.Author.Needs.{needs}
 use Rattle.call_text.proofs.lines.admit_line.Statement.{statement}
 use Rattle.call_text.proofs.lines.admit_line.Tie as tie
