@@ -1,0 +1,2 @@
+-- What the functions of `block_text` cite.
+pub mod BlockLine
