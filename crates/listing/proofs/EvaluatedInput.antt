@@ -20,7 +20,7 @@ use Rattle.listing.specs.Split.{variables, jobOf, sheetOf}
 use Rattle.listing.specs.Known.{evaluateWritten, evaluateInput}
 
 -- as many of the first k elements as there are
-take-ends : (k to : ℕ) (l : List ℕ) → to ≡ min k (length l) → take to l ≡ take k l
+pub take-ends : (k to : ℕ) (l : List ℕ) → to ≡ min k (length l) → take to l ≡ take k l
 take-ends k to l e =
     by-less (length l) k (λ h. take-all to l (omega arith) ∙ sym (take-all k l (omega arith)))
     (λ h. let all : to ≡ k = omega arith in ap (λ (x : ℕ). take x l) all)

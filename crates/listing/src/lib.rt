@@ -1,4 +1,6 @@
 // The listing: a job out of input bytes, and what program `cascade_list` prints of it. Also the job's cascade evaluated.
+mod block;
+
 ghost use mathlib.Core.Path.{_≡_};
 ghost use Prim.Native.Nat.{_≤_, _<_, min};
 ghost use lib.ListN.{length, replicate};
@@ -6,6 +8,7 @@ ghost use Rattle.evaluation.specs.Answer.{evaluationOf};
 ghost use Rattle.node_table.specs.Nodes.{wholeOutcomeOf, wholeOutcome};
 ghost use Rattle.listing.specs.Known.{evaluateInput};
 ghost use Rattle.listing.specs.Split.{number, jobOf, sheetOf};
+pub use crate::block::block_input;
 use cutting::Compilation;
 use evaluation::Evaluation;
 use libc::STDOUT_FILENO;
