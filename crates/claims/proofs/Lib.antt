@@ -1,5 +1,6 @@
 -- What the demands say of the functions that ship.
 mod StateBytes
+pub mod BlockLines
 pub mod KnownInputs
 pub mod LineOrder
 pub mod OldPanels

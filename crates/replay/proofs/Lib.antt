@@ -3,6 +3,7 @@ mod BookTraces
 pub mod ListClaim
 mod LoopSteps
 mod OneCall
+pub mod Promises
 mod Reading
 mod Refusals
 mod Traces
