@@ -2,4 +2,6 @@
 mod FreedLocals
 mod LocalArrays
 mod LocalWords
+pub mod Promises
+pub mod WholeSizes
 mod WordsAndNodes
