@@ -95,10 +95,13 @@ length-some R e = ap length (text-some R e) ∙ length-tab (signAt R) (2 * lengt
 pub text-long : (R : List ℕ) → (1 ≤ length (bytesText R)) × (2 * length R ≤ length (bytesText R)) × (length (bytesText R) ≤ 2 * length R + 1)
 text-long R =
     by-equal (length R) 0 (λ e. let n = length-none R e in (omega arith, omega arith, omega arith))
-    (λ e. let n = length-some R e in (absurd-one e n, omega arith, omega arith))
-  where
-    absurd-one : (length R ≡ 0 → ⊥) → length (bytesText R) ≡ 2 * length R → 1 ≤ length (bytesText R)
-    absurd-one e n = by-less 0 (length R) (λ h. omega arith) (λ h. absurd (e (omega arith)))
+    (λ e.
+    let n = length-some R e in
+    (by-less 0 (length R) (λ h. omega arith) (λ h. absurd (e (omega arith))), omega arith, omega arith))
+
+pub text-most : (R : List ℕ) (n : ℕ) → 1 ≤ n → length R ≤ n → length (bytesText R) ≤ 2 * n
+text-most R n some h =
+    by-equal (length R) 0 (λ e. let l = length-none R e in omega arith) (λ e. let l = length-some R e in omega arith)
 
 -- each of its signs is above a blank and above a line feed
 pub text-sign : (R : List ℕ) → AreBytes R → (i : ℕ) → i < length (bytesText R) → 33 ≤ getD (bytesText R) i 0

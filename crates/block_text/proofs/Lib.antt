@@ -3,4 +3,4 @@ pub mod BytesBack
 pub mod LineBack
 pub mod LineTidied
 pub mod Promises
-mod WriteLaws
+pub mod WriteLaws

@@ -22,7 +22,8 @@ use Rattle.block_text.specs.BlockLine.{bytesText, blockLine, ReadsBack}
 use Rattle.block_text.proofs.BytesBack.{AreBytes, text-sign, bytes-back, bytes-said}
 
 -- the byte x stands first behind a list that has none
-pub first-at : (x : ℕ) (a b : List ℕ) → ((i : ℕ) → i < length a → getD a i 0 ≡ x → ⊥) → least (length (a ++ x ∷ b)) (λ i. eqb (getD (a ++ x ∷ b) i 0) x) ≡ length a
+pub first-at : (x : ℕ) (a b : List ℕ) → ((i : ℕ) → i < length a → getD a i 0 ≡ x → ⊥)
+    → least (length (a ++ x ∷ b)) (λ i. eqb (getD (a ++ x ∷ b) i 0) x) ≡ length a
 first-at x a b none =
     least-is (λ i. eqb (getD (a ++ x ∷ b) i 0) x) (length (a ++ x ∷ b)) (length a) (omega (arith, length-append a (x ∷ b)))
     (λ i h. ne-eqb (getD (a ++ x ∷ b) i 0) x (λ e. none i h (sym (List·getD-append a (x ∷ b) 0 i h) ∙ e)))

@@ -2,8 +2,10 @@
 -- Assumes nothing.
 
 -- the text of bytes, read back
-pub use Rattle.block_text.proofs.BytesBack.{AreBytes, text-long, bytes-back, bytes-said}
+pub use Rattle.block_text.proofs.BytesBack.{AreBytes, text-long, text-most, bytes-back, bytes-said}
 -- the line, read back
 pub use Rattle.block_text.proofs.LineBack.{length-line, line-back, text-back, read-back}
 -- the line is tidy
 pub use Rattle.block_text.proofs.LineTidied.{block-tidied}
+-- what the function answers where the line fits
+pub use Rattle.block_text.proofs.WriteLaws.{write-whole}
