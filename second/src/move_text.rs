@@ -48,8 +48,10 @@ pub fn printed(text: &[u8], way: Way) -> Vec<u8> {
         return input_over().into_bytes();
     }
     let mut output = Vec::new();
-    let whole = text.strip_suffix(b"\n").unwrap_or(text);
-    for (line, place) in whole.split(|&byte| byte == b'\n').zip(1..) {
+    let mut lines: Vec<&[u8]> = text.split(|&byte| byte == b'\n').collect();
+    // Blanks after the last line feed are no line.
+    lines.pop_if(|last| words(last).is_empty() && last.len() < text.len());
+    for (line, place) in lines.into_iter().zip(1..) {
         let moved = match place {
             1 => first_line(line, way),
             _ => call_line(line, place, way),

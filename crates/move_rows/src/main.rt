@@ -1,77 +1,42 @@
 // Prints a list of bank calls with the rows of its blocks moved to two bytes each or back to one. Standard input is a line, widen or narrow, and then the
 // list as docs/REPLAY.md says it.
 ghost use mathlib.Core.Path.{_≡_};
-ghost use Prim.Native.Nat.{_≤_, _*_};
+ghost use Prim.Native.Nat.{_≤_};
 ghost use lib.ListN.{length};
-use libc::STDOUT_FILENO;
 use numbers::byte_at;
 use numbers::least;
 use numbers::pair;
 use numbers::wide;
 use numbers::wide16;
+use printing::say;
+use printing::say_bad_line;
+use printing::say_bad_memory;
+use printing::say_bytes;
+use printing::say_number;
 use stored_spec::MOST_RECORD_BYTES;
 use stored_spec::MOST_ROW_BYTES;
 
-// The bytes of the longest list; with the line before it they fill less than the buffer.
-const MOST_TEXT: usize = 65528;
+// The bytes of the longest list.
+const MOST_TEXT: usize = 1048576;
 
-// Bytes that are printed at once.
-const PIECE: usize = 256;
-
-fn say(text: &[u8]) {
-    io::write_all(STDOUT_FILENO, text);
-}
-
-fn say_number(x: usize) {
-    io::print_decimal(STDOUT_FILENO, x as u64);
-}
-
-fn digit(x: u8) -> u8 {
-    let low = x % 16;
-    if low < 10 {
-        return 48 + low;
-    }
-    87 + low
-}
-
-// The two digits of each byte.
-fn put_digits(bytes: &[u8], text: &mut [u8])
-    requires { ⌜ length (now bytes) * 2 ≤ length (now text) ⌝ }
-{
-    let mut i = 0;
-    while i < bytes.len() {
-        text[i * 2] = digit(bytes[i] / 16);
-        text[i * 2 + 1] = digit(bytes[i]);
-        i += 1;
-    }
-}
-
-fn piece_memory() -> [u8; PIECE * 2]
-    ensures { λ r. ⌜ 512 ≡ length r ⌝ }
-{
-    [0u8; PIECE * 2]
-}
-
-fn say_piece(bytes: &[u8]) {
-    let mut text = piece_memory();
-    let count = least(bytes.len(), PIECE);
-    put_digits(&bytes[..count], &mut text);
-    say(&text[..count * 2]);
-}
-
-fn say_bytes(bytes: &[u8]) {
-    let mut at = 0;
-    while at + PIECE < bytes.len() {
-        say_piece(&bytes[at..at + PIECE]);
-        at += PIECE;
-    }
-    say_piece(&bytes[at..]);
+// Where printing stands, whether something was refused or not understood, and whether nothing more is to be printed.
+struct Said {
+    at: usize,
+    refused: bool,
+    ended: bool,
 }
 
 fn row_memory() -> [u8; MOST_ROW_BYTES]
     ensures { λ r. ⌜ 65536 ≡ length r ⌝ }
 {
     [0u8; MOST_ROW_BYTES]
+}
+
+// The longest list with the line before it, and one byte more, by which a longer one shows.
+fn text_memory() -> [u8; MOST_TEXT + 8]
+    ensures { λ r. ⌜ 1048584 ≡ length r ⌝ }
+{
+    [0u8; MOST_TEXT + 8]
 }
 
 // The bytes that the rows take after the move.
@@ -89,108 +54,159 @@ fn move_to(up: bool, stored: &[u8], bytes: &[u8], records: &mut [u8], rows: &mut
     row_forms::narrow(stored, bytes, records, rows)
 }
 
+fn say_admission(out: &mut [u8], at: usize, records: &[u8], rows: &[u8]) -> usize {
+    let named = say(out, at, b"admit ");
+    let recorded = say_bytes(out, named, records);
+    let parted = say(out, recorded, b" ");
+    let whole = say_bytes(out, parted, rows);
+    say(out, whole, b"\n")
+}
+
+fn say_refused(out: &mut [u8], at: usize, refusal: u8) -> usize {
+    let named = say(out, at, b"refused ");
+    let numbered = say_number(out, named, wide(refusal));
+    say(out, numbered, b"\n")
+}
+
 // The line of the block moved, or why it can't be.
-fn say_block(up: bool, stored: &[u8], bytes: &[u8]) {
+fn say_block(out: &mut [u8], at: usize, up: bool, stored: &[u8], bytes: &[u8]) -> Said {
     let mut records = [0u8; MOST_RECORD_BYTES];
     let mut rows = row_memory();
     let refusal = move_to(up, stored, bytes, &mut records, &mut rows);
     if refusal != 0 {
-        say(b"refused ");
-        say_number(wide(refusal));
-        say(b"\n");
-        return;
+        return Said {
+            at: say_refused(out, at, refusal),
+            refused: true,
+            ended: false,
+        };
     }
     let count = least(stored.len(), MOST_RECORD_BYTES);
     let size = least(moved_size(up, bytes.len()), MOST_ROW_BYTES);
-    say(b"admit ");
-    say_bytes(&records[..count]);
-    say(b" ");
-    say_bytes(&rows[..size]);
-    say(b"\n");
+    Said {
+        at: say_admission(out, at, &records[..count], &rows[..size]),
+        refused: false,
+        ended: false,
+    }
 }
 
 // A block whose records are the first count bytes.
-fn say_parts(up: bool, count: usize, bytes: &[u8]) {
+fn say_parts(out: &mut [u8], at: usize, up: bool, count: usize, bytes: &[u8]) -> Said {
     let end = least(count, bytes.len());
-    say_block(up, &bytes[..end], &bytes[end..]);
+    say_block(out, at, up, &bytes[..end], &bytes[end..])
 }
 
 // An admission's line moved, any other as it stands, from the bytes of its call.
-fn say_call(up: bool, line: &[u8], call: &[u8]) {
+fn say_call(out: &mut [u8], at: usize, up: bool, line: &[u8], call: &[u8]) -> Said {
     if byte_at(call, 0) != 1 {
-        say(line);
-        say(b"\n");
-        return;
+        let said = say(out, at, line);
+        return Said {
+            at: say(out, said, b"\n"),
+            refused: false,
+            ended: false,
+        };
     }
     let from = least(6, call.len());
     let count = wide16(pair(byte_at(call, 1), byte_at(call, 2)));
-    say_parts(up, count, &call[from..]);
+    say_parts(out, at, up, count, &call[from..])
 }
 
-// Whether the line could be read.
-fn say_line(up: bool, line: &[u8]) -> bool {
-    let mut call = row_memory();
-    let read = call_text::read_text(line, 1, &mut call);
+// The line's call moved; code is memory for it in bytes.
+fn say_line(
+    out: &mut [u8],
+    at: usize,
+    up: bool,
+    number: usize,
+    line: &[u8],
+    code: &mut [u8],
+) -> Said {
+    let read = call_text::read_text(line, 1, code);
     if (read.refusal != 0) | (read.bad != 0) {
-        return false;
+        return Said {
+            at: say_bad_line(out, at, number, call_text::wanted(line, 0)),
+            refused: true,
+            ended: true,
+        };
     }
-    let size = least(read.size, MOST_ROW_BYTES);
-    say_call(up, line, &call[..size]);
-    true
-}
-
-fn say_bad_line(number: usize) {
-    say(b"line ");
-    say_number(number);
-    say(b": not understood\n");
+    let size = least(read.size, code.len());
+    say_call(out, at, up, line, &code[..size])
 }
 
 // The lines after the first, up to one that can't be read.
-fn say_lines(up: bool, text: &[u8]) {
+fn say_lines(out: &mut [u8], at: usize, up: bool, text: &[u8], code: &mut [u8]) -> Said {
+    let mut said = at;
+    let mut refused = false;
     let mut number = 2;
-    let mut at = 0;
-    while at < text.len() {
-        let end = at + least(call_text::line_end(&text[at..]), text.len() - at);
-        if !say_line(up, &text[at..end]) {
-            say_bad_line(number);
-            return;
+    let mut place = 0;
+    while place < text.len() {
+        let end = place + least(call_text::line_end(&text[place..]), text.len() - place);
+        let line = say_line(out, said, up, number, &text[place..end], code);
+        if line.ended {
+            return line;
         }
+        said = line.at;
+        refused = refused | line.refused;
         number += 1;
-        at = end + 1;
+        place = end + 1;
+    }
+    Said {
+        at: said,
+        refused,
+        ended: false,
     }
 }
 
-// The row memory with room for as many rows; 65,537 where the first line says none, or too many to be doubled.
-fn moved_memory(up: bool, memory: usize) -> usize {
-    if memory > MOST_ROW_BYTES {
-        return 65537;
+// The most row memory that can be moved.
+fn most_memory(up: bool) -> usize {
+    if up {
+        return MOST_ROW_BYTES / 2;
     }
-    if !up {
-        return memory / 2;
-    }
-    if memory * 2 > MOST_ROW_BYTES {
-        return 65537;
-    }
-    memory * 2
+    MOST_ROW_BYTES
 }
 
-fn say_text(up: bool, text: &[u8]) {
-    if text.len() > MOST_TEXT {
-        say(b"input over 65528 bytes\n");
-        return;
-    }
-    let memory = moved_memory(up, call_text::memory_said(text));
-    if memory > MOST_ROW_BYTES {
-        say_bad_line(1);
-        return;
-    }
-    say(b"memory ");
-    say_number(memory);
-    say(b"\n");
+fn say_memory(out: &mut [u8], up: bool, memory: usize) -> usize {
+    let named = say(out, 0, b"memory ");
+    let numbered = say_number(out, named, moved_size(up, memory));
+    say(out, numbered, b"\n")
+}
+
+// Where the second line begins.
+fn after_line(text: &[u8]) -> usize
+    ensures { λ r. ⌜ r ≤ length (now (text .entry)) ⌝ }
+{
     let end = call_text::line_end(text);
     if end < text.len() {
-        say_lines(up, &text[end + 1..]);
+        return end + 1;
     }
+    text.len()
+}
+
+// The list, its blanks tidied.
+fn say_tidied(out: &mut [u8], up: bool, text: &[u8]) -> Said {
+    let memory = call_text::memory_said(text);
+    if memory > most_memory(up) {
+        return Said {
+            at: say_bad_memory(out, 0, most_memory(up)),
+            refused: true,
+            ended: true,
+        };
+    }
+    let said = say_memory(out, up, memory);
+    let mut code = text_memory();
+    let from = after_line(text);
+    say_lines(out, said, up, &text[from..], &mut code)
+}
+
+fn say_text(out: &mut [u8], up: bool, text: &[u8]) -> Said {
+    if text.len() > MOST_TEXT {
+        return Said {
+            at: say(out, 0, b"input over 1048576 bytes\n"),
+            refused: true,
+            ended: true,
+        };
+    }
+    let mut tidied = text_memory();
+    let size = least(call_text::tidy(text, &mut tidied).size, MOST_TEXT);
+    say_tidied(out, up, &tidied[..size])
 }
 
 fn same(a: &[u8], b: &[u8]) -> bool {
@@ -203,28 +219,34 @@ fn same(a: &[u8], b: &[u8]) -> bool {
     alike
 }
 
-fn run(way: &[u8], text: &[u8]) {
+fn run(out: &mut [u8], way: &[u8], text: &[u8]) -> Said {
     if same(way, b"widen") {
-        say_text(true, text);
-        return;
+        return say_text(out, true, text);
     }
     if same(way, b"narrow") {
-        say_text(false, text);
-        return;
+        return say_text(out, false, text);
     }
-    say(b"the first line is widen or narrow\n");
+    Said {
+        at: say(out, 0, b"the first line is widen or narrow\n"),
+        refused: true,
+        ended: true,
+    }
 }
 
 // The first line, and the list after it.
-fn run_input(input: &[u8]) {
+fn run_input(out: &mut [u8], input: &[u8]) -> Said {
     let end = least(call_text::line_end(input), input.len());
     let from = least(end + 1, input.len());
-    run(&input[..end], &input[from..]);
+    run(out, &input[..end], &input[from..])
 }
 
-// Of a list too long for the buffer nothing is printed, so what lies past the buffer does not matter.
+// Of a list too long for the memory nothing is printed, so what lies past it does not matter.
 fn main() {
-    let mut buf = io::large_buffer();
-    let n = io::read_full(0, &mut buf);
-    run_input(&buf[..n]);
+    let mut out = printing::memory();
+    let mut text = text_memory();
+    let n = io::read_full(0, &mut text);
+    let said = run_input(&mut out, &text[..n]);
+    if printing::end(&out, said.at) & said.refused {
+        printing::tell(b"refused\n");
+    }
 }

@@ -6,6 +6,11 @@ use denote.Ref.{now}
 use borrow.Author.Needs.{needs}
 use Rattle.move_rows.proofs.run_input.Statement.{statement}
 use Rattle.move_rows.proofs.run_input.Tie as tie
+use Rattle.move_rows.proofs.run_input.Reads as reads
+use Rattle.move_rows.proofs.run_input.Lts as lts
+use Rattle.call_text.proofs.line_end.Reads as line-end-reads
+use Rattle.move_rows.proofs.run.Reads as run-reads
+use Rattle.numbers.proofs.least.Reads as least-reads
 
 line-end-requires : tie.Need-line-end-requires
 line-end-requires c κs = search needs
@@ -20,7 +25,7 @@ least-requires-2 : tie.Need-least-requires-2
 least-requires-2 c κs = search needs
 
 slice-aggregate-run : tie.Need-slice-aggregate-run
-slice-aggregate-run c = omega (arith, length-take (c .before .before .least .result) (now (c .before .before .before .before .before .args .input)))
+slice-aggregate-run c = omega (arith, length-take (c .before .before .before .least .result) (now (c .before .before .before .before .before .before .before .args .input)))
 
 sub-run : tie.Need-sub-run
 sub-run c = search needs
@@ -33,6 +38,9 @@ part-run-end c = search needs
 
 run-requires : tie.Need-run-requires
 run-requires c κs = search needs
+
+same-length : tie.Need-same-length
+same-length c = search needs
 
 returns : tie.Need-returns
 returns c = search needs
@@ -50,4 +58,5 @@ run-input-spec =
     part-run-start
     part-run-end
     run-requires
+    same-length
     returns)

@@ -5,6 +5,14 @@ use native.Mathlib.Omega.{arith}
 use borrow.Author.Needs.{needs}
 use Rattle.move_rows.proofs.say_block.Statement.{statement}
 use Rattle.move_rows.proofs.say_block.Tie as tie
+use Rattle.move_rows.proofs.say_block.Reads as reads
+use Rattle.move_rows.proofs.say_block.Lts as lts
+use Rattle.move_rows.proofs.move_to.Reads as move-to-reads
+use Rattle.move_rows.proofs.moved_size.Reads as moved-size-reads
+use Rattle.move_rows.proofs.row_memory.Reads as row-memory-reads
+use Rattle.move_rows.proofs.say_admission.Reads as say-admission-reads
+use Rattle.move_rows.proofs.say_refused.Reads as say-refused-reads
+use Rattle.numbers.proofs.least.Reads as least-reads
 
 row-memory-requires : tie.Need-row-memory-requires
 row-memory-requires c κs = search needs
@@ -18,23 +26,11 @@ slice-aggregate-move-to-2 c = search needs
 move-to-requires : tie.Need-move-to-requires
 move-to-requires c κs = search needs
 
-slice-aggregate-say : tie.Need-slice-aggregate-say
-slice-aggregate-say c = search needs
+say-refused-requires : tie.Need-say-refused-requires
+say-refused-requires c κs = search needs
 
-say-requires : tie.Need-say-requires
-say-requires c κs = search needs
-
-wide-requires : tie.Need-wide-requires
-wide-requires c κs = search needs
-
-say-number-requires : tie.Need-say-number-requires
-say-number-requires c κs = search needs
-
-slice-aggregate-say-2 : tie.Need-slice-aggregate-say-2
-slice-aggregate-say-2 c = search needs
-
-say-requires-2 : tie.Need-say-requires-2
-say-requires-2 c κs = search needs
+same-length : tie.Need-same-length
+same-length c = search needs
 
 returns : tie.Need-returns
 returns c = search needs
@@ -48,41 +44,23 @@ moved-size-requires c κs = search needs
 least-requires-2 : tie.Need-least-requires-2
 least-requires-2 c κs = search needs
 
-slice-aggregate-say-3 : tie.Need-slice-aggregate-say-3
-slice-aggregate-say-3 c = search needs
-
-say-requires-3 : tie.Need-say-requires-3
-say-requires-3 c κs = search needs
-
 array-share-prefix-records : tie.Need-array-share-prefix-records
 array-share-prefix-records c = search needs
 
-slice-aggregate-say-bytes : tie.Need-slice-aggregate-say-bytes
-slice-aggregate-say-bytes c = omega (arith, length-take (c .before .before .before .before .before .least .result) (c .before .before .before .before .before .before .before .before .before .move-to .last .1 .1 .1 .0))
-
-say-bytes-requires : tie.Need-say-bytes-requires
-say-bytes-requires c κs = search needs
-
-slice-aggregate-say-4 : tie.Need-slice-aggregate-say-4
-slice-aggregate-say-4 c = search needs
-
-say-requires-4 : tie.Need-say-requires-4
-say-requires-4 c κs = search needs
+slice-aggregate-say-admission : tie.Need-slice-aggregate-say-admission
+slice-aggregate-say-admission c = omega (arith, length-take (c .before .before .before .before .least .result) (c .before .before .before .before .before .before .before .before .move-to .last .1 .1 .1 .0))
 
 array-share-prefix-rows : tie.Need-array-share-prefix-rows
 array-share-prefix-rows c = search needs
 
-slice-aggregate-say-bytes-2 : tie.Need-slice-aggregate-say-bytes-2
-slice-aggregate-say-bytes-2 c = omega (arith, length-take (c .before .before .before .before .before .before .before .least2 .result) (c .before .before .before .before .before .before .before .before .before .before .before .before .before .move-to .last .1 .1 .1 .1 .0))
+slice-aggregate-say-admission-2 : tie.Need-slice-aggregate-say-admission-2
+slice-aggregate-say-admission-2 c = omega (arith, length-take (c .before .before .before .least2 .result) (c .before .before .before .before .before .before .before .before .before .move-to .last .1 .1 .1 .1 .0))
 
-say-bytes-requires-2 : tie.Need-say-bytes-requires-2
-say-bytes-requires-2 c κs = search needs
+say-admission-requires : tie.Need-say-admission-requires
+say-admission-requires c κs = search needs
 
-slice-aggregate-say-5 : tie.Need-slice-aggregate-say-5
-slice-aggregate-say-5 c = search needs
-
-say-requires-5 : tie.Need-say-requires-5
-say-requires-5 c κs = search needs
+same-length-2 : tie.Need-same-length-2
+same-length-2 c = search needs
 
 returns-2 : tie.Need-returns-2
 returns-2 c = search needs
@@ -95,26 +73,16 @@ say-block-spec =
     slice-aggregate-move-to
     slice-aggregate-move-to-2
     move-to-requires
-    slice-aggregate-say
-    say-requires
-    wide-requires
-    say-number-requires
-    slice-aggregate-say-2
-    say-requires-2
+    say-refused-requires
+    same-length
     returns
     least-requires
     moved-size-requires
     least-requires-2
-    slice-aggregate-say-3
-    say-requires-3
     array-share-prefix-records
-    slice-aggregate-say-bytes
-    say-bytes-requires
-    slice-aggregate-say-4
-    say-requires-4
+    slice-aggregate-say-admission
     array-share-prefix-rows
-    slice-aggregate-say-bytes-2
-    say-bytes-requires-2
-    slice-aggregate-say-5
-    say-requires-5
+    slice-aggregate-say-admission-2
+    say-admission-requires
+    same-length-2
     returns-2)

@@ -1,16 +1,22 @@
 -- `say_lines` ends: each line is read once.
 -- Assumes nothing.
+use mathlib.Core.Path.{_≡_}
 use Prim.Native.Nat.{_-_, _+_, _≤_}
 use lib.ListN.{length}
 use borrow.Author.Needs.{needs}
 use Rattle.move_rows.proofs.say_lines.Statement.{statement}
 use Rattle.move_rows.proofs.say_lines.Tie as tie
+use Rattle.move_rows.proofs.say_lines.Reads as reads
+use Rattle.move_rows.proofs.say_lines.Lts as lts
+use Rattle.call_text.proofs.line_end.Reads as line-end-reads
+use Rattle.move_rows.proofs.say_line.Reads as say-line-reads
+use Rattle.numbers.proofs.least.Reads as least-reads
 
 abbrev Inv-loop : tie.InvT-loop
-Inv-loop up text number₀ at₀ number at = number ≤ at + 2
+Inv-loop out₀ at up text code₀ said₀ refused₀ number₀ place₀ out code said refused number place = (number ≤ place + 2) × (length out ≡ length out₀) × (length code ≡ length code₀)
 
 abbrev μ-loop : tie.MeasureT-loop
-μ-loop up text number₀ at₀ number at = length text - at
+μ-loop out₀ at up text code₀ said₀ refused₀ number₀ place₀ out code said refused number place = length text - place
 
 loop-holds : tie.Need-loop-holds Inv-loop μ-loop
 loop-holds c = search needs
@@ -48,8 +54,11 @@ part-say-line-end c = search needs
 say-line-requires : tie.Need-say-line-requires Inv-loop μ-loop
 say-line-requires c κs = search needs
 
-say-bad-line-requires : tie.Need-say-bad-line-requires Inv-loop μ-loop
-say-bad-line-requires c κs = search needs
+same-length : tie.Need-same-length Inv-loop μ-loop
+same-length c = search needs
+
+same-length-2 : tie.Need-same-length-2 Inv-loop μ-loop
+same-length-2 c = search needs
 
 returns : tie.Need-returns Inv-loop μ-loop
 returns c = search needs
@@ -57,14 +66,20 @@ returns c = search needs
 add-number : tie.Need-add-number Inv-loop μ-loop
 add-number c = search needs
 
-add-at : tie.Need-add-at Inv-loop μ-loop
-add-at c = search needs
+add-place : tie.Need-add-place Inv-loop μ-loop
+add-place c = search needs
 
 loop-less : tie.Need-loop-less Inv-loop μ-loop
 loop-less c = search needs
 
 loop-again : tie.Need-loop-again Inv-loop μ-loop
 loop-again c = search needs
+
+same-length-3 : tie.Need-same-length-3 Inv-loop μ-loop
+same-length-3 c = search needs
+
+same-length-4 : tie.Need-same-length-4 Inv-loop μ-loop
+same-length-4 c = search needs
 
 returns-2 : tie.Need-returns-2 Inv-loop μ-loop
 returns-2 c = search needs
@@ -87,10 +102,13 @@ say-lines-spec =
     part-say-line-start
     part-say-line-end
     say-line-requires
-    say-bad-line-requires
+    same-length
+    same-length-2
     returns
     add-number
-    add-at
+    add-place
     loop-less
     loop-again
+    same-length-3
+    same-length-4
     returns-2)
