@@ -13,6 +13,7 @@ ghost use Rattle.panel_calls.specs.Exported.{compiledOf, compileBytes, knownOf,
 ghost use Rattle.evaluation_spec.specs.Known.{evaluate};
 ghost use Rattle.row_forms_spec.specs.Moves.{widen, narrow};
 ghost use Rattle.stored_spec.specs.ReadWrite.{writtenAs};
+ghost use Rattle.panel.specs.Release.{version, layout};
 ghost use Rattle.panel_calls.specs.StateBytes.{called, newBytes, admitBytes, latchBytes, stepBytes};
 use bank_spec::MOST_BLOCKS;
 use panel_calls::BankBytes;
@@ -25,6 +26,27 @@ use reduction_spec::Reduction;
 use reduction_spec::Widths;
 use sheet_spec::MOST_OUTPUTS;
 use sheet_spec::Table;
+
+// The release whose archive this is, 65536 * major + 256 * minor + patch: 1.0.0.
+pub const VERSION: u32 = 65536;
+
+// The layout of what C lends and keeps: nodes, records, rows, table, bank and scan state. Layout 1 had one byte a row.
+pub const LAYOUT: u32 = 2;
+
+// What the header of the same release has, for a firmware to compare when it starts.
+#[no_mangle]
+pub extern "C" fn cascade_version() -> u32
+    ensures { λ r. ⌜ r ≡ version ⌝ }
+{
+    VERSION
+}
+
+#[no_mangle]
+pub extern "C" fn cascade_layout() -> u32
+    ensures { λ r. ⌜ r ≡ layout ⌝ }
+{
+    LAYOUT
+}
 
 // The least of refusals 1 to 6 of a job and its sheet; 0 where there is none.
 #[no_mangle]
