@@ -1,12 +1,23 @@
 /* The proved compiler and stepper for C: a job and its logic sheet in, a cascade out; cascades held in a bank and
  * scanned, one read a call.
  *
- * Link with target/staticlib/libpanel.a (made by `rt staticlib panel`).
+ * Link with libkawsethu.a of a release (pkg-config kawsethu), or with target/staticlib/libpanel.a, which is the same archive
+ * (made by `rt staticlib panel`).
  *
- * Every function takes any numbers and any bytes, ends, and reads and writes nothing but what it is lent. On a
- * refusal it leaves all lent memory as it was. A slice is a pointer and its number of elements; a slice of no
- * elements needs a pointer that is not null. Slices lent to one call must not overlap, save that those only read
- * (const) may be the same.
+ * Every function takes any numbers and any bytes, ends, and reads and writes nothing but what it is lent and its stack. On a
+ * refusal it leaves all lent memory as it was.
+ *
+ * Memory. A slice is a pointer and its number of elements. NULL may not be lent, also not with length 0: lend the address of
+ * anything. Slices lent to one call must not overlap, save that those only read (const) may be the same.
+ *
+ * Threads. The archive has no data that is written, so calls on different memory may run in several threads at once. A call
+ * may be interrupted, and the interrupt may call any function on other memory. What a call is lent nobody else may write
+ * until it returns, nor read where the call writes it; what it only reads others may read too.
+ *
+ * Stack. Each function has a macro CASCADE_.._STACK with as many bytes as are enough: measured on a painted stack, with
+ * room to spare, also for a dynamic linker that binds memcpy or memset at the first call. Nothing is on a heap.
+ *
+ * Time. Nothing is proved of it. What is said of it below is what it grows with, seen in the code and in measurements.
  */
 #ifndef CASCADE_H
 #define CASCADE_H
@@ -18,6 +29,36 @@
 #ifdef __cplusplus
 extern "C" {
 #endif
+
+/* Which header this is: 65536 x major + 256 x minor + patch. CASCADE_LAYOUT changes when memory that is lent is laid out
+ * otherwise: nodes, records, rows, table, bank or scan state. Layout 1 had one byte a row. What was stored with one layout
+ * must not be lent to a function of another. */
+#define CASCADE_VERSION 0x010000
+#define CASCADE_VERSION_STRING "1.0.0"
+#define CASCADE_LAYOUT 2
+
+/* The same two numbers of the archive, so that a firmware can compare both with its header when it starts. */
+#define CASCADE_VERSION_STACK 64
+uint32_t cascade_version(void);
+uint32_t cascade_layout(void);
+
+/* Refusals. Each function says below which it gives. */
+#define CASCADE_ACCEPTED 0
+#define CASCADE_REFUSED_RANGE 1               /* n, m, k, l or the scan limit out of range */
+#define CASCADE_REFUSED_ORDER 2               /* the order is not each variable once */
+#define CASCADE_REFUSED_SHEET_LENGTH 3        /* no multiple of 8, or over 2,048 */
+#define CASCADE_REFUSED_RECORD 4              /* bits or kind of a record */
+#define CASCADE_REFUSED_CONTRADICTION 5       /* two records of one kind contradict each other */
+#define CASCADE_REFUSED_DEPENDENCE 6          /* an output stands above an input on which it depends */
+#define CASCADE_REFUSED_COLUMNS 7             /* over 512 columns at some height */
+#define CASCADE_REFUSED_CUTS 8                /* no cut list meets k and l */
+#define CASCADE_REFUSED_NODES_SHORT 9         /* memory for nodes too short */
+#define CASCADE_REFUSED_RECORDS_SHORT 10      /* memory for records too short */
+#define CASCADE_REFUSED_ROWS_SHORT 11         /* memory for rows too short, or over 32,768 rows in a bank */
+#define CASCADE_REFUSED_NOT_WELL_FORMED 12    /* bank, scan state or cascade not well formed */
+#define CASCADE_REFUSED_BANK_FULL 13          /* 8 blocks are held */
+#define CASCADE_REFUSED_SCAN_LIMIT 14         /* more cells than the scan limit */
+#define CASCADE_REFUSED_OVER_EIGHT_OUTPUTS 15 /* a cell has more than 8 outputs, rails counted */
 
 /* A job: n inputs (1 to 12), m outputs (1 to 8), cell limits of k inputs (2 to 12) and l outputs (1 to 16), and an
  * order of n + m bytes, top first: input i is i, output i is 128 + i. The sheet is records of 8 bytes: 0 and 1 the mask
@@ -60,7 +101,8 @@ typedef struct {
  *            the answer is their number, so CASCADE_ROW_SIZE times as many bytes are written. In a memory of odd length
  *            the last byte is no room for a row;
  *   widths   holds the widths at the heights 0 to n + m - 1, then zeros.
- * nodes, records and rows keep what lies past the part written. Stack: CASCADE_COMPILE_STACK bytes are enough. */
+ * nodes, records and rows keep what lies past the part written. Time: that of cascade_sheet_table; at each of the n + m
+ * heights up to the square of its columns, of which there are at most 512; then the rows x m. */
 #define CASCADE_COMPILE_STACK 524288
 cascade_totals cascade_compile(size_t n, size_t m, size_t k, size_t l,
                                const uint8_t *order, size_t order_length,
@@ -70,21 +112,27 @@ cascade_totals cascade_compile(size_t n, size_t m, size_t k, size_t l,
                                uint8_t *rows, size_t rows_length,
                                uint16_t widths[CASCADE_WIDTHS]);
 
-/* The least of refusals 1 to 6 of a job and its sheet; 0 where there is none. It makes the table for itself, so it takes
- * about 45,000 bytes of stack. */
+/* The least of refusals 1 to 6 of a job and its sheet; 0 where there is none. It makes the table for itself. Time: that of
+ * cascade_sheet_table. */
+#define CASCADE_SHEET_REFUSAL_STACK 65536
 uint8_t cascade_sheet_refusal(size_t n, size_t m, size_t k, size_t l,
                               const uint8_t *order, size_t order_length,
                               const uint8_t *sheet, size_t sheet_length);
 
-/* The same. Where it is 0, table holds at its front m lines of 2^n values, lowest output first: 0, 1, or 2 for free; the
- * place in a line is the inputs read down the order, topmost most significant. */
+/* The same. Where it is 0, table holds at its front m lines of 2^n values: 0, 1, or 2 for free. The lines go up the order,
+ * whatever the outputs' numbers: line 0 is that of the output that stands lowest in the order, the last one, and line i that
+ * of the output with i outputs below it. The place in a line is the inputs read down the order, topmost most significant.
+ * What lies past the lines is kept. Time: grows with the square of the number of records, with records x 2^n and with
+ * n x 2^n. */
+#define CASCADE_SHEET_TABLE_STACK 16384
 uint8_t cascade_sheet_table(size_t n, size_t m, size_t k, size_t l,
                             const uint8_t *order, size_t order_length,
                             const uint8_t *sheet, size_t sheet_length,
                             uint8_t table[CASCADE_TABLE_BYTES]);
 
 /* The reduction alone: the least of refusals 1 to 7, or 0 and the number of nodes; then widths and words are written as
- * cascade_compile writes widths and nodes, save that widths past n + m - 1 are kept. */
+ * cascade_compile writes widths and nodes, save that widths past n + m - 1 are kept. Time: as cascade_compile, without rows. */
+#define CASCADE_REDUCE_STACK 458752
 typedef struct {
     uint8_t refusal;
     uint16_t nodes;
@@ -97,8 +145,9 @@ cascade_reduction cascade_reduce(size_t n, size_t m, size_t k, size_t l,
                                  uint16_t words[CASCADE_NODE_WORDS]);
 
 /* Walks over the diagram. words are CASCADE_NODE_WORDS words as cascade_reduce and cascade_compile write them. A node is
- * its number: 0 and 1 are the constants, 2 is the first node, and a number over 10,241 has the children 0. Stack:
- * CASCADE_WALK_STACK bytes are enough for each of the four. */
+ * its number: 0 and 1 are the constants, 2 is the first node, and a number over 10,241 has the children 0.
+ * CASCADE_WALK_STACK is for each of the four. Time: cascade_walk and cascade_descent take a turn a height; the comparisons
+ * go down both children and stop where they differ, so they take up to 2^height turns. */
 #define CASCADE_WALK_STACK 8192
 
 /* Where a walk from node at height ends: it goes from a node to a child, one height down, until height 0 or a constant.
@@ -123,18 +172,18 @@ cascade_reached cascade_descent(const uint16_t words[CASCADE_NODE_WORDS],
                                 uint16_t node, uint16_t inputs, uint8_t count);
 
 /* The value of row i of row bytes. */
-#define CASCADE_ROW(rows, i) ((uint16_t)((rows)[2 * (i)] | (rows)[2 * (i) + 1] << 8))
+#define CASCADE_ROW(rows, i) ((uint16_t)((rows)[2 * (size_t)(i)] | (rows)[2 * (size_t)(i) + 1] << 8))
 
 /* Which outputs of a stored cascade are certain where only some inputs are known, as when a sensor's cable is cut. records and
  * rows are those of one cascade, as cascade_compile writes them or as a fitter patched them, with no byte more. Bit i of known
  * says that input i is known, and bit i of word is then its value; bits of unknown inputs in word, bits above 11 and inputs that
  * the cascade lacks have no effect. Answers 0, and outputs[o] is 0 or 1 where every filling of the unknown inputs makes the
  * cascade emit that value, else CASCADE_UNKNOWN, which an output that the cascade lacks always is; or 12 where the cascade is
- * not well formed, and then outputs are as they were. Learning one more input never turns a 0 or 1 into anything else. Stack:
- * CASCADE_KNOWN_STACK bytes are enough. */
+ * not well formed, and then outputs are as they were. Learning one more input never turns a 0 or 1 into anything else. Time:
+ * grows with records and rows, for all are tested; of a cell only rows that agree with what is known are read again. */
 #define CASCADE_OUTPUTS 8
 #define CASCADE_UNKNOWN 2
-#define CASCADE_KNOWN_STACK 4096
+#define CASCADE_KNOWN_STACK 8192
 uint8_t cascade_known(const uint8_t *records, size_t records_length,
                       const uint8_t *rows, size_t rows_length,
                       uint16_t known, uint16_t word,
@@ -147,8 +196,8 @@ uint8_t cascade_known(const uint8_t *records, size_t records_length,
  *      rows, each below 2^outputs
  *   10 to_records shorter than records               11 to_rows shorter than 2 bytes a row
  * and then nothing changes. The first that holds in this order is answered. What is moved is well formed by the rules of
- * today and emits the same outputs for every word, so a bank admits it as it is. Stack: CASCADE_MOVE_STACK bytes are enough
- * for both ways. */
+ * today and emits the same outputs for every word, so a bank admits it as it is. CASCADE_MOVE_STACK is for both
+ * ways. Time: grows with records and rows. */
 #define CASCADE_MOVE_STACK 4096
 uint8_t cascade_widen(const uint8_t *records, size_t records_length,
                       const uint8_t *rows, size_t rows_length,
@@ -178,13 +227,17 @@ uint8_t cascade_narrow(const uint8_t *records, size_t records_length,
  *          21   the outputs, 8 bytes a place: 0 or 1 where set, else CASCADE_NOT_SET
  *
  * Nothing in them says how many bytes a row has: a bank filled when rows had one byte must be made anew, for a step would
- * read wrong rows. Stack: CASCADE_BANK_STACK bytes are enough for each of the four. */
+ * read wrong rows.
+ *
+ * CASCADE_BANK_STACK is for each of the four. Time: each call but the first tests the records of all blocks held, at most
+ * 160, and keeps nothing of it for the next; the rows held are not tested again. cascade_admit grows besides with the rows of
+ * the block, which it tests and copies. A step reads one row. */
 #define CASCADE_PLACES 8
 #define CASCADE_BANK_BYTES 651
 #define CASCADE_SCAN_BYTES 85
 #define CASCADE_NOT_SET 2
 #define CASCADE_BANK_STACK 8192
-#define CASCADE_OUTPUT(scan, place, output) ((scan)[21 + 8 * (place) + (output)])
+#define CASCADE_OUTPUT(scan, place, output) ((scan)[21 + 8 * (size_t)(place) + (size_t)(output)])
 
 /* A new bank with the scan limit s, 1 to 255, and its fresh scan state. Answers 0, or 1 where s is out of range, and then
  * both are as they were. */
