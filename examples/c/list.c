@@ -1,5 +1,6 @@
 /* Compiles the job on standard input with the proved compiler and prints its listing, as program cascade_list does.
- * Build: cc -O2 -I include examples/c/list.c target/staticlib/libpanel.a -o list
+ * Build: cc -O2 -I include examples/c/list.c target/staticlib/libpanel.a -o list  (in the repository)
+ *        cc -O2 -I include examples/c/list.c lib/libkawsethu.a -o list             (in a release; or by the Makefile here)
  * Run:   ./list < examples/table1.job */
 #include "job.h"
 
@@ -15,7 +16,7 @@ static unsigned rails(unsigned w)
 int main(void)
 {
     cascade_totals made = compile(stdin);
-    if (made.refusal != 0) {
+    if (made.refusal != CASCADE_ACCEPTED) {
         printf("refused %u\n", (unsigned)made.refusal);
         return 0;
     }

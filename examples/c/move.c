@@ -1,6 +1,7 @@
 /* Compiles a job with the proved compiler, moves its cascade to one byte a row, as an old panel takes it, and back up, and prints both as lines that
  * admit it (docs/REPLAY.md).
- * Build: cc -O2 -I include examples/c/move.c target/staticlib/libpanel.a -o move
+ * Build: cc -O2 -I include examples/c/move.c target/staticlib/libpanel.a -o move  (in the repository)
+ *        cc -O2 -I include examples/c/move.c lib/libkawsethu.a -o move             (in a release; or by the Makefile here)
  * Run:   ./move examples/table1.job */
 #include "job.h"
 
@@ -36,13 +37,13 @@ int main(int argc, char **argv)
     size_t length = 4 * (inputs + outputs);
     size_t count = made.rows;
     uint8_t refusal = made.refusal;
-    if (refusal == 0)
+    if (refusal == CASCADE_ACCEPTED)
         refusal = cascade_narrow(records, length, rows, CASCADE_ROW_SIZE * count, old_records, sizeof old_records, old_rows,
                                  sizeof old_rows);
-    if (refusal == 0)
+    if (refusal == CASCADE_ACCEPTED)
         refusal = cascade_widen(old_records, length, old_rows, count, new_records, sizeof new_records, new_rows,
                                 sizeof new_rows);
-    if (refusal != 0) {
+    if (refusal != CASCADE_ACCEPTED) {
         printf("refused %u\n", (unsigned)refusal);
         return 1;
     }
