@@ -259,7 +259,7 @@ uint8_t cascade_admit(uint8_t bank[CASCADE_BANK_BYTES], uint8_t scan[CASCADE_SCA
 uint8_t cascade_latch(const uint8_t bank[CASCADE_BANK_BYTES], uint8_t scan[CASCADE_SCAN_BYTES],
                       const uint16_t words[CASCADE_PLACES]);
 
-/* What a step answers. */
+/* What a step answers: kinds, for the field kind alone. CASCADE_REFUSED is no number of a refusal. */
 #define CASCADE_IDLE 0    /* no scan, or all cells are read */
 #define CASCADE_WENT 1    /* a cell was read: block and cell, counted from 0 */
 #define CASCADE_REFUSED 2 /* refusal is 12, or 11 where the row memory is shorter than 2 bytes for each row held */
