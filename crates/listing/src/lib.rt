@@ -1,5 +1,6 @@
 // The listing: a job out of input bytes, and what program `cascade_list` prints of it. Also the job's cascade evaluated.
 mod block;
+pub mod nodes;
 
 ghost use mathlib.Core.Path.{_≡_};
 ghost use Prim.Native.Nat.{_≤_, _<_, min};
@@ -47,13 +48,13 @@ pub fn compile_input(input: &[u8], records: &mut [u8], rows: &mut [u8]) -> Compi
     node_table::compile_whole(n, m, k, l, &input[from..to], &input[to..], records, rows)
 }
 
-fn record_memory() -> [u8; MOST_RECORD_BYTES]
+pub fn record_memory() -> [u8; MOST_RECORD_BYTES]
     ensures { λ r. ⌜ (80 ≡ length r) × (r ≡ replicate 80 0) ⌝ }
 {
     [0u8; MOST_RECORD_BYTES]
 }
 
-fn row_memory() -> [u8; MOST_ROW_BYTES]
+pub fn row_memory() -> [u8; MOST_ROW_BYTES]
     ensures { λ r. ⌜ (65536 ≡ length r) × (r ≡ replicate 65536 0) ⌝ }
 {
     [0u8; MOST_ROW_BYTES]
