@@ -6,12 +6,6 @@ use lib.ListN.{length}
 use borrow.Author.Needs.{needs}
 use Rattle.drawing.proofs.cells.say_rows.Statement.{statement}
 use Rattle.drawing.proofs.cells.say_rows.Tie as tie
-use Rattle.drawing.proofs.cells.say_rows.Reads as reads
-use Rattle.drawing.proofs.cells.say_rows.Lts as lts
-use Rattle.drawing.proofs.cells.say_row.Reads as say-row-reads
-use Rattle.numbers.proofs.least.Reads as least-reads
-use Rattle.numbers.proofs.pair.Reads as pair-reads
-use Rattle.numbers.proofs.wide16.Reads as wide16-reads
 
 abbrev Inv-loop : tie.InvT-loop
 Inv-loop out₀ at rows count last said₀ j₀ out said j = (length out ≡ length out₀) × (last ≤ 16) × (last * 2 ≤ length rows)
@@ -19,63 +13,48 @@ Inv-loop out₀ at rows count last said₀ j₀ out said j = (length out ≡ len
 abbrev μ-loop : tie.MeasureT-loop
 μ-loop out₀ at rows count last said₀ j₀ out said j = last - j
 
--- src/cells.rt:94:9
 least-requires : tie.Need-least-requires Inv-loop μ-loop
 least-requires c κs = search needs
 
--- src/cells.rt:97:5
 loop-holds : tie.Need-loop-holds Inv-loop μ-loop
 loop-holds c = search needs
 
--- src/cells.rt:103:30
 mul-pair : tie.Need-mul-pair Inv-loop μ-loop
 mul-pair c = search needs
 
--- src/cells.rt:103:25
 shared-slice-read-pair : tie.Need-shared-slice-read-pair Inv-loop μ-loop
 shared-slice-read-pair c = search needs
 
--- src/cells.rt:103:43
 mul-pair-2 : tie.Need-mul-pair-2 Inv-loop μ-loop
 mul-pair-2 c = search needs
 
--- src/cells.rt:103:43
 add-pair : tie.Need-add-pair Inv-loop μ-loop
 add-pair c = search needs
 
--- src/cells.rt:103:38
 shared-slice-read-pair-2 : tie.Need-shared-slice-read-pair-2 Inv-loop μ-loop
 shared-slice-read-pair-2 c = search needs
 
--- src/cells.rt:103:20
 pair-requires : tie.Need-pair-requires Inv-loop μ-loop
 pair-requires c κs = search needs
 
--- src/cells.rt:103:13
 wide16-requires : tie.Need-wide16-requires Inv-loop μ-loop
 wide16-requires c κs = search needs
 
--- src/cells.rt:98:9
 say-row-requires : tie.Need-say-row-requires Inv-loop μ-loop
 say-row-requires c κs = search needs
 
--- src/cells.rt:105:9
 add-j : tie.Need-add-j Inv-loop μ-loop
 add-j c = search needs
 
--- src/cells.rt:97:5
 loop-less : tie.Need-loop-less Inv-loop μ-loop
 loop-less c = search needs
 
--- src/cells.rt:97:5
 loop-again : tie.Need-loop-again Inv-loop μ-loop
 loop-again c = search needs
 
--- src/cells.rt:92:1
 same-length : tie.Need-same-length Inv-loop μ-loop
 same-length c = search needs
 
--- src/cells.rt:92:1
 returns : tie.Need-returns Inv-loop μ-loop
 returns c = search needs
 

@@ -6,11 +6,6 @@ use lib.ListN.{length}
 use borrow.Author.Needs.{needs}
 use Rattle.drawing.proofs.cells.say_variables.Statement.{statement}
 use Rattle.drawing.proofs.cells.say_variables.Tie as tie
-use Rattle.drawing.proofs.cells.say_variables.Reads as reads
-use Rattle.drawing.proofs.cells.say_variables.Lts as lts
-use Rattle.drawing.proofs.cells.say_if.Reads as say-if-reads
-use Rattle.drawing.proofs.diagram.variable_at.Reads as variable-at-reads
-use Rattle.numbers.proofs.least.Reads as least-reads
 
 abbrev Inv-loop : tie.InvT-loop
 Inv-loop out₀ at records from to inputs last said₀ d₀ out said d = (length out ≡ length out₀) × (last ≤ 20)
@@ -18,39 +13,30 @@ Inv-loop out₀ at records from to inputs last said₀ d₀ out said d = (length
 abbrev μ-loop : tie.MeasureT-loop
 μ-loop out₀ at records from to inputs last said₀ d₀ out said d = last - d
 
--- src/cells.rt:52:9
 least-requires : tie.Need-least-requires Inv-loop μ-loop
 least-requires c κs = search needs
 
--- src/cells.rt:55:5
 loop-holds : tie.Need-loop-holds Inv-loop μ-loop
 loop-holds c = search needs
 
--- src/cells.rt:56:34
 variable-at-requires : tie.Need-variable-at-requires Inv-loop μ-loop
 variable-at-requires c κs = search needs
 
--- src/cells.rt:56:9
 say-if-requires : tie.Need-say-if-requires Inv-loop μ-loop
 say-if-requires c κs = search needs
 
--- src/cells.rt:57:9
 add-d : tie.Need-add-d Inv-loop μ-loop
 add-d c = search needs
 
--- src/cells.rt:55:5
 loop-less : tie.Need-loop-less Inv-loop μ-loop
 loop-less c = search needs
 
--- src/cells.rt:55:5
 loop-again : tie.Need-loop-again Inv-loop μ-loop
 loop-again c = search needs
 
--- src/cells.rt:44:1
 same-length : tie.Need-same-length Inv-loop μ-loop
 same-length c = search needs
 
--- src/cells.rt:44:1
 returns : tie.Need-returns Inv-loop μ-loop
 returns c = search needs
 

@@ -4,43 +4,31 @@ use mathlib.Core.Path.{refl}
 use borrow.Author.Needs.{needs}
 use Rattle.drawing.proofs.diagram.node_at.Statement.{statement}
 use Rattle.drawing.proofs.diagram.node_at.Tie as tie
-use Rattle.drawing.proofs.diagram.node_at.Reads as reads
-use Rattle.drawing.proofs.diagram.node_at.Lts as lts
-use Rattle.drawing.proofs.diagram.word_at.Reads as word-at-reads
 
--- src/diagram.rt:32:32
 mul-word-at : tie.Need-mul-word-at
 mul-word-at c = search needs
 
--- src/diagram.rt:32:17
 word-at-requires : tie.Need-word-at-requires
 word-at-requires c κs = search needs
 
--- src/diagram.rt:33:29
 mul-word-at-2 : tie.Need-mul-word-at-2
 mul-word-at-2 c = search needs
 
--- src/diagram.rt:33:29
 add-word-at : tie.Need-add-word-at
 add-word-at c = search needs
 
--- src/diagram.rt:33:14
 word-at-requires-2 : tie.Need-word-at-requires-2
 word-at-requires-2 c κs = search needs
 
--- src/diagram.rt:34:30
 mul-word-at-3 : tie.Need-mul-word-at-3
 mul-word-at-3 c = search needs
 
--- src/diagram.rt:34:30
 add-word-at-2 : tie.Need-add-word-at-2
 add-word-at-2 c = search needs
 
--- src/diagram.rt:34:15
 word-at-requires-3 : tie.Need-word-at-requires-3
 word-at-requires-3 c κs = search needs
 
--- src/diagram.rt:27:1
 returns : tie.Need-returns
 returns c = rw (c .word-at3 .ensures, c .before .word-at2 .ensures, c .before .before .word-at .ensures) refl
 

@@ -6,10 +6,6 @@ use lib.ListN.{length}
 use borrow.Author.Needs.{needs}
 use Rattle.drawing.proofs.diagram.say_edges.Statement.{statement}
 use Rattle.drawing.proofs.diagram.say_edges.Tie as tie
-use Rattle.drawing.proofs.diagram.say_edges.Reads as reads
-use Rattle.drawing.proofs.diagram.say_edges.Lts as lts
-use Rattle.drawing.proofs.diagram.say_children.Reads as say-children-reads
-use Rattle.numbers.proofs.least.Reads as least-reads
 
 abbrev Inv-loop : tie.InvT-loop
 Inv-loop out₀ at words count last said₀ i₀ out said i = (length out ≡ length out₀) × (last ≤ 10240)
@@ -17,35 +13,27 @@ Inv-loop out₀ at words count last said₀ i₀ out said i = (length out ≡ le
 abbrev μ-loop : tie.MeasureT-loop
 μ-loop out₀ at words count last said₀ i₀ out said i = last - i
 
--- src/diagram.rt:213:9
 least-requires : tie.Need-least-requires Inv-loop μ-loop
 least-requires c κs = search needs
 
--- src/diagram.rt:216:5
 loop-holds : tie.Need-loop-holds Inv-loop μ-loop
 loop-holds c = search needs
 
--- src/diagram.rt:217:9
 say-children-requires : tie.Need-say-children-requires Inv-loop μ-loop
 say-children-requires c κs = search needs
 
--- src/diagram.rt:218:9
 add-i : tie.Need-add-i Inv-loop μ-loop
 add-i c = search needs
 
--- src/diagram.rt:216:5
 loop-less : tie.Need-loop-less Inv-loop μ-loop
 loop-less c = search needs
 
--- src/diagram.rt:216:5
 loop-again : tie.Need-loop-again Inv-loop μ-loop
 loop-again c = search needs
 
--- src/diagram.rt:212:1
 same-length : tie.Need-same-length Inv-loop μ-loop
 same-length c = search needs
 
--- src/diagram.rt:212:1
 returns : tie.Need-returns Inv-loop μ-loop
 returns c = search needs
 

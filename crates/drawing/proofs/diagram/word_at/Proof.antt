@@ -7,22 +7,16 @@ use lib.ListN.{List·getD-eq-default}
 use borrow.Author.Needs.{needs}
 use Rattle.drawing.proofs.diagram.word_at.Statement.{statement}
 use Rattle.drawing.proofs.diagram.word_at.Tie as tie
-use Rattle.drawing.proofs.diagram.word_at.Reads as reads
-use Rattle.drawing.proofs.diagram.word_at.Lts as lts
 
--- src/diagram.rt:21:16
 mul-result : tie.Need-mul-result
 mul-result c = search needs
 
--- src/diagram.rt:21:16
 shared-slice-read-result : tie.Need-shared-slice-read-result
 shared-slice-read-result c = search needs
 
--- src/diagram.rt:21:9
 returns : tie.Need-returns
 returns c = search needs
 
--- src/diagram.rt:17:1
 returns-2 : tie.Need-returns-2
 returns-2 c = sym (List·getD-eq-default (now (c .before .args .words)) 0 (omega arith))
 
