@@ -1,70 +1,74 @@
 // Says which outputs of a job are certain where some inputs are not known. Standard input is a line known=HEX word=HEX, and then the job as
 // `cascade_list` reads it.
-use libc::STDOUT_FILENO;
 use numbers::byte_at;
 use numbers::least;
 use numbers::wide;
-
-fn say(text: &[u8]) {
-    io::write_all(STDOUT_FILENO, text);
-}
-
-fn say_number(x: usize) {
-    io::print_decimal(STDOUT_FILENO, x as u64);
-}
+use printing::say;
+use printing::say_number;
 
 // "y1 0", "y1 1" or "y1 unknown".
-fn say_output(number: usize, value: u8) {
-    say(b"y");
-    say_number(number);
+fn say_output(out: &mut [u8], at: usize, number: usize, value: u8) -> usize {
+    let named = say(out, at, b"y");
+    let numbered = say_number(out, named, number);
     if value == 0 {
-        say(b" 0\n");
-        return;
+        return say(out, numbered, b" 0\n");
     }
     if value == 1 {
-        say(b" 1\n");
-        return;
+        return say(out, numbered, b" 1\n");
     }
-    say(b" unknown\n");
+    say(out, numbered, b" unknown\n")
 }
 
 // A line for each of the m outputs of a job.
-fn say_outputs(m: usize, outputs: &[u8]) {
+fn say_outputs(out: &mut [u8], m: usize, outputs: &[u8]) -> usize {
     let last = least(m, outputs.len());
+    let mut said = 0;
     let mut o = 0;
     while o < last {
-        say_output(o + 1, outputs[o]);
+        said = say_output(out, said, o + 1, outputs[o]);
         o += 1;
     }
+    said
 }
 
-fn say_known(job: &[u8], known: u16, word: u16) {
+fn say_refused(out: &mut [u8], refusal: u8) -> usize {
+    let named = say(out, 0, b"refused ");
+    let numbered = say_number(out, named, wide(refusal));
+    say(out, numbered, b"\n")
+}
+
+// The outputs, or "refused N"; whether it was refused, and that could be written, is in the answer.
+fn say_known(out: &mut [u8], job: &[u8], known: u16, word: u16) -> bool {
     let made = listing::evaluate_input(job, known, word);
     if made.refusal != 0 {
-        say(b"refused ");
-        say_number(wide(made.refusal));
-        say(b"\n");
-        return;
+        let said = say_refused(out, made.refusal);
+        return printing::end(out, said);
     }
     let outputs = made.outputs;
-    say_outputs(wide(byte_at(job, 1)), &outputs);
+    let said = say_outputs(out, wide(byte_at(job, 1)), &outputs);
+    printing::end(out, said);
+    false
 }
 
-fn run_text(text: &[u8]) {
+// The word that is said on standard error is `use` where the first line can't be read.
+fn run_text(out: &mut [u8], text: &[u8]) {
     let read = call_text::read_known(text);
     let end = call_text::line_end(text);
     if end < text.len() {
         if read.good {
-            say_known(&text[end + 1..], read.known, read.word);
+            if say_known(out, &text[end + 1..], read.known, read.word) {
+                printing::tell(b"refused\n");
+            }
             return;
         }
     }
-    say(b"use: cascade_known FILE known=HEX word=HEX\n");
+    printing::tell(b"use\n");
 }
 
 // Of more than 65,536 bytes the first 65,536 decide, for the first 4,096 of the job do.
 fn main() {
+    let mut out = printing::memory();
     let mut buf = io::large_buffer();
     let n = io::read_full(0, &mut buf);
-    run_text(&buf[..n]);
+    run_text(&mut out, &buf[..n]);
 }

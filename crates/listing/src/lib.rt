@@ -12,16 +12,23 @@ ghost use Rattle.listing.specs.Split.{number, jobOf, sheetOf};
 pub use crate::block::block_input;
 use cutting::Compilation;
 use evaluation::Evaluation;
-use libc::STDOUT_FILENO;
 use numbers::least;
 use numbers::pair;
 use numbers::wide;
 use numbers::wide16;
+use printing::say;
+use printing::say_number;
 use reduction_spec::Widths;
 use sheet_spec::MOST_OUTPUTS;
 use sheet_spec::MOST_VARIABLES;
 use stored_spec::MOST_RECORD_BYTES;
 use stored_spec::MOST_ROW_BYTES;
+
+// Where printing stands, and whether a job was refused.
+pub struct Listed {
+    pub at: usize,
+    pub refused: bool,
+}
 
 // Byte i of the input, 0 where it has ended.
 fn number(input: &[u8], i: usize) -> usize
@@ -79,100 +86,127 @@ pub fn evaluate_input(input: &[u8], known: u16, word: u16) -> Evaluation
     }
 }
 
-fn print(x: usize) {
-    io::print_decimal(STDOUT_FILENO, x as u64);
-}
-
 // A space, then the number.
-fn print_next(x: usize) {
-    io::write_all(STDOUT_FILENO, b" ");
-    print(x);
-}
-
-fn end_line() {
-    io::write_all(STDOUT_FILENO, b"\n");
+fn say_next(out: &mut [u8], at: usize, x: usize) -> usize {
+    let spaced = say(out, at, b" ");
+    say_number(out, spaced, x)
 }
 
 // "height width rails".
-fn print_height(h: usize, width: u16) {
-    print(h);
-    print_next(width as usize);
-    print_next(wide(cutting::rails(width)));
-    end_line();
+fn say_height(out: &mut [u8], at: usize, h: usize, width: u16) -> usize {
+    let height = say_number(out, at, h);
+    let widened = say_next(out, height, wide16(width));
+    let railed = say_next(out, widened, wide(cutting::rails(width)));
+    say(out, railed, b"\n")
 }
 
 // Per height its line, from t - 1 down to 0.
-fn print_heights(t: usize, widths: &Widths) {
+fn say_heights(out: &mut [u8], at: usize, t: usize, widths: &Widths) -> usize {
+    let mut said = at;
     let mut h = least(t, MOST_VARIABLES);
     while h > 0 {
         h -= 1;
-        print_height(h, widths[h]);
+        said = say_height(out, said, h, widths[h]);
     }
+    said
 }
 
-// The values of the rows from place at up to place end, two bytes each.
-fn print_rows(rows: &[u8], at: usize, end: usize) {
+// The values of the rows from place from up to place end, two bytes each.
+fn say_rows(out: &mut [u8], at: usize, rows: &[u8], from: usize, end: usize) -> usize {
     let last = least(end, rows.len() / 2);
-    let mut i = at;
+    let mut said = at;
+    let mut i = from;
     while i < last {
-        print_next(wide16(pair(rows[i * 2], rows[i * 2 + 1])));
+        said = say_next(out, said, wide16(pair(rows[i * 2], rows[i * 2 + 1])));
         i += 1;
     }
+    said
 }
 
-// Per cell top height, bottom height, rows.
-fn print_cells(cells: usize, records: &[u8], rows: &[u8]) {
+// A cell's top height, bottom height, rows.
+fn say_cell(out: &mut [u8], at: usize, k: usize, records: &[u8], rows: &[u8]) -> usize {
+    let place = stored::cell_place(records, k);
+    let named = say(out, at, b"cell");
+    let top = say_next(out, named, place.top);
+    let bottom = say_next(out, top, place.bottom);
+    let rowed = say_rows(out, bottom, rows, place.at, place.end);
+    say(out, rowed, b"\n")
+}
+
+fn say_cells(out: &mut [u8], at: usize, cells: usize, records: &[u8], rows: &[u8]) -> usize {
+    let mut said = at;
     let mut k = 0;
     while k < cells {
-        let place = stored::cell_place(records, k);
-        io::write_all(STDOUT_FILENO, b"cell");
-        print_next(place.top);
-        print_next(place.bottom);
-        print_rows(rows, place.at, place.end);
-        end_line();
+        said = say_cell(out, said, k, records, rows);
         k += 1;
     }
+    said
 }
 
-// Prints the listing of the job and sheet of the input, or "refused N".
-pub fn list(input: &[u8]) {
+fn say_refused(out: &mut [u8], at: usize, refusal: u8) -> usize {
+    let named = say(out, at, b"refused");
+    let numbered = say_next(out, named, wide(refusal));
+    say(out, numbered, b"\n")
+}
+
+// The listing of the job and sheet of the input, or "refused N".
+pub fn list(out: &mut [u8], at: usize, input: &[u8]) -> Listed {
     let mut records = record_memory();
     let mut rows = row_memory();
     let compiled = compile_input(input, &mut records, &mut rows);
     if compiled.refusal != 0 {
-        io::write_all(STDOUT_FILENO, b"refused");
-        print_next(wide(compiled.refusal));
-        end_line();
-        return;
+        return Listed {
+            at: say_refused(out, at, compiled.refusal),
+            refused: true,
+        };
     }
     let t = number(input, 0) + number(input, 1);
     let widths = compiled.widths;
-    print_heights(t, &widths);
+    let heights = say_heights(out, at, t, &widths);
     let used = least(t * 4, MOST_RECORD_BYTES);
-    print_cells(wide(compiled.cells), &records[..used], &rows);
+    Listed {
+        at: say_cells(out, heights, wide(compiled.cells), &records[..used], &rows),
+        refused: false,
+    }
 }
 
-// The same of standard input. Of more than 4,096 bytes the first 4,096 decide the answer.
+// Writes what is left, and says where a job was refused.
+fn end(out: &[u8], listed: Listed) {
+    if printing::end(out, listed.at) & listed.refused {
+        printing::tell(b"refused\n");
+    }
+}
+
+// Prints the listing of standard input. Of more than 4,096 bytes the first 4,096 decide the answer.
 pub fn list_input() {
+    let mut out = printing::memory();
     let mut buf = io::buffer();
     let n = io::read_full(0, &mut buf);
-    list(&buf[..n]);
+    let listed = list(&mut out, 0, &buf[..n]);
+    end(&out, listed);
 }
 
 // Lists each job of the bytes, one after another, which is headed by its number of bytes (two, the low byte first).
-fn list_each(bytes: &[u8]) {
+fn list_each(out: &mut [u8], bytes: &[u8]) -> Listed {
+    let mut said = 0;
+    let mut refused = false;
     let mut at = 0;
     while at + 2 <= bytes.len() {
         let size = wide(bytes[at]) + wide(bytes[at + 1]) * 256;
         let to = least(at + 2 + size, bytes.len());
-        list(&bytes[at + 2..to]);
+        let listed = list(out, said, &bytes[at + 2..to]);
+        said = listed.at;
+        refused = refused | listed.refused;
         at = to;
     }
+    Listed { at: said, refused }
 }
 
 // The same of the first 65,536 bytes of standard input.
 pub fn list_jobs() {
+    let mut out = printing::memory();
     let mut buf = io::large_buffer();
     let n = io::read_full(0, &mut buf);
-    list_each(&buf[..n]);
+    let listed = list_each(&mut out, &buf[..n]);
+    end(&out, listed);
 }

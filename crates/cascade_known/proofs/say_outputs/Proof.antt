@@ -1,16 +1,21 @@
--- `cascade_known::say_outputs` meets its contract.
+-- `say_outputs` meets its contract.
 -- Assumes nothing.
+use mathlib.Core.Path.{_≡_}
 use Prim.Native.Nat.{_-_, _≤_}
 use lib.ListN.{length}
 use borrow.Author.Needs.{needs}
 use Rattle.cascade_known.proofs.say_outputs.Statement.{statement}
 use Rattle.cascade_known.proofs.say_outputs.Tie as tie
+use Rattle.cascade_known.proofs.say_outputs.Reads as reads
+use Rattle.cascade_known.proofs.say_outputs.Lts as lts
+use Rattle.cascade_known.proofs.say_output.Reads as say-output-reads
+use Rattle.numbers.proofs.least.Reads as least-reads
 
 abbrev Inv-loop : tie.InvT-loop
-Inv-loop m outputs last o₀ o = last ≤ length outputs
+Inv-loop out₀ m outputs last said₀ o₀ out said o = (last ≤ length outputs) × (length out ≡ length out₀)
 
 abbrev μ-loop : tie.MeasureT-loop
-μ-loop m outputs last o₀ o = last - o
+μ-loop out₀ m outputs last said₀ o₀ out said o = last - o
 
 least-requires : tie.Need-least-requires Inv-loop μ-loop
 least-requires c κs = search needs
@@ -36,6 +41,9 @@ loop-less c = search needs
 loop-again : tie.Need-loop-again Inv-loop μ-loop
 loop-again c = search needs
 
+same-length : tie.Need-same-length Inv-loop μ-loop
+same-length c = search needs
+
 returns : tie.Need-returns Inv-loop μ-loop
 returns c = search needs
 
@@ -53,4 +61,5 @@ say-outputs-spec =
     add-o
     loop-less
     loop-again
+    same-length
     returns)

@@ -10,75 +10,57 @@ use Rattle.listing.proofs.InputParts.{outcome-same}
 use Rattle.node_table.proofs.compile_whole.Reads as compile-whole-reads
 use Rattle.numbers.proofs.least.Reads as least-reads
 
--- src/lib.rt:32:9
 number-requires : tie.Need-number-requires
 number-requires c κs = search needs
 
--- src/lib.rt:33:9
 number-requires-2 : tie.Need-number-requires-2
 number-requires-2 c κs = search needs
 
--- src/lib.rt:34:9
 number-requires-3 : tie.Need-number-requires-3
 number-requires-3 c κs = search needs
 
--- src/lib.rt:35:9
 number-requires-4 : tie.Need-number-requires-4
 number-requires-4 c κs = search needs
 
--- src/lib.rt:36:9
 least-requires : tie.Need-least-requires
 least-requires c κs = search needs
 
--- src/lib.rt:37:20
 add-least : tie.Need-add-least
 add-least c = search needs
 
--- src/lib.rt:37:20
 add-least-2 : tie.Need-add-least-2
 add-least-2 c = search needs
 
--- src/lib.rt:37:9
 least-requires-2 : tie.Need-least-requires-2
 least-requires-2 c κs = search needs
 
--- src/lib.rt:43:9
 sub-compile-whole : tie.Need-sub-compile-whole
 sub-compile-whole c = search needs
 
--- src/lib.rt:43:9
 part-compile-whole-start : tie.Need-part-compile-whole-start
 part-compile-whole-start c = search needs
 
--- src/lib.rt:43:9
 part-compile-whole-end : tie.Need-part-compile-whole-end
 part-compile-whole-end c = search needs
 
--- src/lib.rt:44:9
 sub-compile-whole-2 : tie.Need-sub-compile-whole-2
 sub-compile-whole-2 c = search needs
 
--- src/lib.rt:44:9
 part-compile-whole-start-2 : tie.Need-part-compile-whole-start-2
 part-compile-whole-start-2 c = search needs
 
--- src/lib.rt:44:9
 part-compile-whole-end-2 : tie.Need-part-compile-whole-end-2
 part-compile-whole-end-2 c = search needs
 
--- src/lib.rt:38:5
 compile-whole-requires : tie.Need-compile-whole-requires
 compile-whole-requires c κs = search needs
 
--- src/lib.rt:27:1
 same-length : tie.Need-same-length
 same-length c = search needs
 
--- src/lib.rt:27:1
 same-length-2 : tie.Need-same-length-2
 same-length-2 c = search needs
 
--- src/lib.rt:27:1
 returns : tie.Need-returns
 returns c =
     let called = c .before .before .before .before in

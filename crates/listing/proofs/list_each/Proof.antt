@@ -1,3 +1,6 @@
+-- `list_each` meets its contract.
+-- Assumes nothing.
+use mathlib.Core.Path.{_≡_}
 use Prim.Native.Nat.{_-_, _≤_}
 use lib.ListN.{length}
 use borrow.Author.Needs.{needs}
@@ -5,93 +8,76 @@ use Rattle.listing.proofs.list_each.Statement.{statement}
 use Rattle.listing.proofs.list_each.Tie as tie
 use Rattle.listing.proofs.list_each.Reads as reads
 use Rattle.listing.proofs.list_each.Lts as lts
-use Rattle.numbers.proofs.least.Reads as least-reads
 use Rattle.listing.proofs.list.Reads as list-reads
+use Rattle.numbers.proofs.least.Reads as least-reads
 use Rattle.numbers.proofs.wide.Reads as wide-reads
 
 abbrev Inv-loop : tie.InvT-loop
-Inv-loop bytes at₀ at = at ≤ length bytes
+Inv-loop out₀ bytes said₀ refused₀ at₀ out said refused at = (at ≤ length bytes) × (length out ≡ length out₀)
 
 abbrev μ-loop : tie.MeasureT-loop
-μ-loop bytes at₀ at = length bytes - at
+μ-loop out₀ bytes said₀ refused₀ at₀ out said refused at = length bytes - at
 
--- src/lib.rt:167:5
 loop-holds : tie.Need-loop-holds Inv-loop μ-loop
 loop-holds c = search needs
 
--- src/lib.rt:167:11
 add-loop : tie.Need-add-loop Inv-loop μ-loop
 add-loop c = search needs
 
--- src/lib.rt:168:25
 shared-slice-read-wide : tie.Need-shared-slice-read-wide Inv-loop μ-loop
 shared-slice-read-wide c = search needs
 
--- src/lib.rt:168:20
 wide-requires : tie.Need-wide-requires Inv-loop μ-loop
 wide-requires c κs = search needs
 
--- src/lib.rt:168:49
 add-wide : tie.Need-add-wide Inv-loop μ-loop
 add-wide c = search needs
 
--- src/lib.rt:168:43
 shared-slice-read-wide-2 : tie.Need-shared-slice-read-wide-2 Inv-loop μ-loop
 shared-slice-read-wide-2 c = search needs
 
--- src/lib.rt:168:38
 wide-requires-2 : tie.Need-wide-requires-2 Inv-loop μ-loop
 wide-requires-2 c κs = search needs
 
--- src/lib.rt:168:38
 mul-size : tie.Need-mul-size Inv-loop μ-loop
 mul-size c = search needs
 
--- src/lib.rt:168:20
 add-size : tie.Need-add-size Inv-loop μ-loop
 add-size c = search needs
 
--- src/lib.rt:169:24
 add-least : tie.Need-add-least Inv-loop μ-loop
 add-least c = search needs
 
--- src/lib.rt:169:24
 add-least-2 : tie.Need-add-least-2 Inv-loop μ-loop
 add-least-2 c = search needs
 
--- src/lib.rt:169:13
 least-requires : tie.Need-least-requires Inv-loop μ-loop
 least-requires c κs = search needs
 
--- src/lib.rt:170:21
 add-list : tie.Need-add-list Inv-loop μ-loop
 add-list c = search needs
 
--- src/lib.rt:170:14
 sub-list : tie.Need-sub-list Inv-loop μ-loop
 sub-list c = search needs
 
--- src/lib.rt:170:14
 part-list-start : tie.Need-part-list-start Inv-loop μ-loop
 part-list-start c = search needs
 
--- src/lib.rt:170:14
 part-list-end : tie.Need-part-list-end Inv-loop μ-loop
 part-list-end c = search needs
 
--- src/lib.rt:170:9
 list-requires : tie.Need-list-requires Inv-loop μ-loop
 list-requires c κs = search needs
 
--- src/lib.rt:167:5
 loop-less : tie.Need-loop-less Inv-loop μ-loop
 loop-less c = search needs
 
--- src/lib.rt:167:5
 loop-again : tie.Need-loop-again Inv-loop μ-loop
 loop-again c = search needs
 
--- src/lib.rt:165:1
+same-length : tie.Need-same-length Inv-loop μ-loop
+same-length c = search needs
+
 returns : tie.Need-returns Inv-loop μ-loop
 returns c = search needs
 
@@ -120,4 +106,5 @@ list-each-spec =
     list-requires
     loop-less
     loop-again
+    same-length
     returns)

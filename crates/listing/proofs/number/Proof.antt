@@ -9,19 +9,15 @@ use Rattle.listing.proofs.number.Reads as reads
 use Rattle.listing.proofs.number.Lts as lts
 use Rattle.numbers.proofs.wide.Reads as wide-reads
 
--- src/lib.rt:15:21
 shared-slice-read-wide : tie.Need-shared-slice-read-wide
 shared-slice-read-wide c = search needs
 
--- src/lib.rt:15:9
 wide-requires : tie.Need-wide-requires
 wide-requires c κs = search needs
 
--- src/lib.rt:15:9
 returns : tie.Need-returns
 returns c = search needs
 
--- src/lib.rt:11:1
 returns-2 : tie.Need-returns-2
 returns-2 c = (sym (List·getD-eq-default (now (c .before .before .args .input)) 0 (omega arith)), omega arith)
 
