@@ -202,9 +202,9 @@ fn blanks() {
             let text = format!("memory 8\r\n{line}\nstep\r\n{line}\n");
             let output = format!("memory {memory}\n{moved}\nstep\n{moved}\n");
             assert_eq!(both(way, text.as_bytes()), output, "{line:?}");
-            // A last line that has bytes is one also without its newline.
+            // A last line that has a word is one also without its newline.
             let text = format!("memory 8\n{line}");
-            let last = match line {
+            let last = match moved {
                 "" => String::new(),
                 _ => format!("{moved}\n"),
             };
