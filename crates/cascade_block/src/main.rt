@@ -2,9 +2,8 @@
 ghost use mathlib.Core.Path.{_≡_};
 ghost use lib.ListN.{length};
 use numbers::least;
-use numbers::wide;
 use printing::say;
-use printing::say_number;
+use printing::say_refused;
 
 // As long as the line of a job can be.
 const MOST_LINE: usize = 49320;
@@ -15,18 +14,12 @@ fn line_memory() -> [u8; MOST_LINE]
     [0u8; MOST_LINE]
 }
 
-fn say_refused(out: &mut [u8], refusal: u8) -> usize {
-    let named = say(out, 0, b"refused ");
-    let numbered = say_number(out, named, wide(refusal));
-    say(out, numbered, b"\n")
-}
-
 // The line, or "refused N"; whether it was refused is in the answer.
 fn say_block(out: &mut [u8], input: &[u8]) -> bool {
     let mut text = line_memory();
     let made = listing::block_input(input, &mut text);
     if made.refusal != 0 {
-        let said = say_refused(out, made.refusal);
+        let said = say_refused(out, 0, made.refusal);
         return printing::end(out, said);
     }
     let size = least(made.size, MOST_LINE);

@@ -5,6 +5,7 @@ use numbers::least;
 use numbers::wide;
 use printing::say;
 use printing::say_number;
+use printing::say_refused;
 
 // "y1 0", "y1 1" or "y1 unknown".
 fn say_output(out: &mut [u8], at: usize, number: usize, value: u8) -> usize {
@@ -31,17 +32,11 @@ fn say_outputs(out: &mut [u8], m: usize, outputs: &[u8]) -> usize {
     said
 }
 
-fn say_refused(out: &mut [u8], refusal: u8) -> usize {
-    let named = say(out, 0, b"refused ");
-    let numbered = say_number(out, named, wide(refusal));
-    say(out, numbered, b"\n")
-}
-
 // The outputs, or "refused N"; whether it was refused, and that could be written, is in the answer.
 fn say_known(out: &mut [u8], job: &[u8], known: u16, word: u16) -> bool {
     let made = listing::evaluate_input(job, known, word);
     if made.refusal != 0 {
-        let said = say_refused(out, made.refusal);
+        let said = say_refused(out, 0, made.refusal);
         return printing::end(out, said);
     }
     let outputs = made.outputs;

@@ -9,7 +9,6 @@ ghost use lib.ListN.{length};
 use crate::cells::say_cells;
 use crate::diagram::say_edges;
 use crate::diagram::say_heights;
-use crate::names::say_with;
 use numbers::byte_at;
 use numbers::least;
 use numbers::wide;
@@ -69,7 +68,7 @@ fn draw_all(
 
 fn refuse(refusal: u8) {
     let mut out = printing::memory();
-    let said = say_with(&mut out, 0, b"refused ", wide(refusal), b"\n");
+    let said = printing::say_refused(&mut out, 0, refusal);
     if printing::end(&out, said) {
         printing::tell(b"refused\n");
     }

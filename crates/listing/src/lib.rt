@@ -18,6 +18,7 @@ use numbers::wide;
 use numbers::wide16;
 use printing::say;
 use printing::say_number;
+use printing::say_refused;
 use reduction_spec::Widths;
 use sheet_spec::MOST_OUTPUTS;
 use sheet_spec::MOST_VARIABLES;
@@ -141,12 +142,6 @@ fn say_cells(out: &mut [u8], at: usize, cells: usize, records: &[u8], rows: &[u8
         k += 1;
     }
     said
-}
-
-fn say_refused(out: &mut [u8], at: usize, refusal: u8) -> usize {
-    let named = say(out, at, b"refused");
-    let numbered = say_next(out, named, wide(refusal));
-    say(out, numbered, b"\n")
 }
 
 // The listing of the job and sheet of the input, or "refused N".

@@ -6,13 +6,13 @@ ghost use lib.ListN.{length};
 use numbers::byte_at;
 use numbers::least;
 use numbers::pair;
-use numbers::wide;
 use numbers::wide16;
 use printing::say;
 use printing::say_bad_line;
 use printing::say_bad_memory;
 use printing::say_bytes;
 use printing::say_number;
+use printing::say_refused;
 use stored_spec::MOST_RECORD_BYTES;
 use stored_spec::MOST_ROW_BYTES;
 
@@ -60,12 +60,6 @@ fn say_admission(out: &mut [u8], at: usize, records: &[u8], rows: &[u8]) -> usiz
     let parted = say(out, recorded, b" ");
     let whole = say_bytes(out, parted, rows);
     say(out, whole, b"\n")
-}
-
-fn say_refused(out: &mut [u8], at: usize, refusal: u8) -> usize {
-    let named = say(out, at, b"refused ");
-    let numbered = say_number(out, named, wide(refusal));
-    say(out, numbered, b"\n")
 }
 
 // The line of the block moved, or why it can't be.

@@ -76,6 +76,13 @@ pub fn say_number(out: &mut [u8], at: usize, x: usize) -> usize {
     say(out, at, &digits[..count])
 }
 
+// "refused N", a line.
+pub fn say_refused(out: &mut [u8], at: usize, refusal: u8) -> usize {
+    let named = say(out, at, b"refused ");
+    let numbered = say_number(out, named, refusal as usize);
+    say(out, numbered, b"\n")
+}
+
 fn digit(x: u8) -> u8 {
     let low = x % 16;
     if low < 10 {

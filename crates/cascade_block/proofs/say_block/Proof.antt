@@ -8,7 +8,7 @@ use Rattle.cascade_block.proofs.say_block.Tie as tie
 use Rattle.cascade_block.proofs.say_block.Reads as reads
 use Rattle.cascade_block.proofs.say_block.Lts as lts
 use Rattle.cascade_block.proofs.line_memory.Reads as line-memory-reads
-use Rattle.cascade_block.proofs.say_refused.Reads as say-refused-reads
+use Rattle.printing.proofs.say_refused.Reads as say-refused-reads
 use Rattle.listing.proofs.block_input.Reads as block-input-reads
 use Rattle.numbers.proofs.least.Reads as least-reads
 use Rattle.printing.proofs.end.Reads as end-reads

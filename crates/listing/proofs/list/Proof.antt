@@ -13,7 +13,7 @@ use Rattle.listing.proofs.record_memory.Reads as record-memory-reads
 use Rattle.listing.proofs.row_memory.Reads as row-memory-reads
 use Rattle.listing.proofs.say_cells.Reads as say-cells-reads
 use Rattle.listing.proofs.say_heights.Reads as say-heights-reads
-use Rattle.listing.proofs.say_refused.Reads as say-refused-reads
+use Rattle.printing.proofs.say_refused.Reads as say-refused-reads
 use Rattle.numbers.proofs.least.Reads as least-reads
 use Rattle.numbers.proofs.wide.Reads as wide-reads
 

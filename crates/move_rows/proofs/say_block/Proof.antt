@@ -11,7 +11,7 @@ use Rattle.move_rows.proofs.move_to.Reads as move-to-reads
 use Rattle.move_rows.proofs.moved_size.Reads as moved-size-reads
 use Rattle.move_rows.proofs.row_memory.Reads as row-memory-reads
 use Rattle.move_rows.proofs.say_admission.Reads as say-admission-reads
-use Rattle.move_rows.proofs.say_refused.Reads as say-refused-reads
+use Rattle.printing.proofs.say_refused.Reads as say-refused-reads
 use Rattle.numbers.proofs.least.Reads as least-reads
 
 row-memory-requires : tie.Need-row-memory-requires
