@@ -1,13 +1,13 @@
 -- Laws of `puts` and `putsAt`: stores one after another into a list of any length, as a loop over an array makes them.
 -- Assumes nothing.
 use mathlib.Core.Path.{_≡_, refl, sym, _∙_, ap, ap₂}
-use mathlib.Core.List.{List, [], _∷_, _++_}
+use mathlib.Core.List.{List, [], _∷_, _++_, append-nil}
 use Prim.Native.Nat.{ℕ, zero, suc, _+_, _-_, _*_, _<_, _≤_, min}
 use native.Mathlib.Nat.{not-suc-le-zero, add-zero, zero-add, add-suc, min-eq-left, min-eq-right}
 use native.Mathlib.Numerals.{add-one}
 use native.Mathlib.Omega.{arith}
-use lib.ListN.{length, getD, set, length-set, replicate, length-replicate, getD-replicate}
-use lib.Seq.{set-out, getD-set-same, getD-set-other, set-getD, sets, ext-getD}
+use lib.ListN.{length, getD, set, drop, length-set, replicate, length-replicate, getD-replicate}
+use lib.Seq.{set-out, drop-length, getD-set-same, getD-set-other, set-getD, sets, ext-getD}
 use Rattle.laws.specs.Lists.{tab, rect, filled, written, puts, putsAt}
 use Rattle.laws.proofs.Cases.{last-or-below, by-less}
 use Rattle.laws.proofs.Lists.{length-tab, length-rect, tab-ext, tab-of}
@@ -77,6 +77,12 @@ module _ {A : Type 0} (f : ℕ → A) where
   puts-filled zero l h = refl
   puts-filled (suc n) l h =
       ap (λ (s : List A). set s n (f n)) (puts-filled n l (omega arith)) ∙ filled-more f n l (f n) refl h ∙ ap (λ (k : ℕ). filled k f l) (add-one n)
+
+  -- as many stores as there are places
+  pub puts-whole : (n : ℕ) (l : List A) → length l ≡ n → puts n f l ≡ tab n f
+  puts-whole n l e =
+      let none : drop n l ≡ [] = ap (λ (k : ℕ). drop k l) (sym e) ∙ drop-length l in
+      puts-filled n l (omega (arith, e)) ∙ ap (λ (k : List A). tab n f ++ k) none ∙ append-nil (tab n f)
 
   -- a run of stores more; a run that is left as it was
   pub puts-run : (n c : ℕ) (l : List A) (g : ℕ → A) → ((i : ℕ) → i < c → g i ≡ f (n + i)) → putsAt n c g (puts n f l) ≡ puts (n + c) f l
