@@ -31,11 +31,12 @@ extern "C" {
 #endif
 
 /* Which header this is: 65536 x major + 256 x minor + patch. CASCADE_LAYOUT changes when memory that is lent is laid out
- * otherwise: nodes, records, rows, table, bank or scan state. Layout 1 had one byte a row. What was stored with one layout
- * must not be lent to a function of another. */
-#define CASCADE_VERSION 0x010000
-#define CASCADE_VERSION_STRING "1.0.0"
-#define CASCADE_LAYOUT 2
+ * otherwise: nodes, records, rows, table, bank or scan state. Layout 1 had one byte a row, layout 2 a bank of 651 bytes
+ * without periods and phases and a scan state of 85 without a number. What was stored with one layout must not be lent to a
+ * function of another. */
+#define CASCADE_VERSION 0x020000
+#define CASCADE_VERSION_STRING "2.0.0"
+#define CASCADE_LAYOUT 3
 
 /* The same two numbers of the archive, so that a firmware can compare both with its header when it starts. */
 #define CASCADE_VERSION_STACK 64
@@ -57,8 +58,9 @@ uint32_t cascade_layout(void);
 #define CASCADE_REFUSED_ROWS_SHORT 11         /* memory for rows too short, or over 32,768 rows in a bank */
 #define CASCADE_REFUSED_NOT_WELL_FORMED 12    /* bank, scan state or cascade not well formed */
 #define CASCADE_REFUSED_BANK_FULL 13          /* 8 blocks are held */
-#define CASCADE_REFUSED_SCAN_LIMIT 14         /* more cells than the scan limit */
+#define CASCADE_REFUSED_SCAN_LIMIT 14         /* in some scan more due cells than the scan limit */
 #define CASCADE_REFUSED_OVER_EIGHT_OUTPUTS 15 /* a cell has more than 8 outputs, rails counted */
+#define CASCADE_REFUSED_PERIOD 16             /* period not 1, 2, 4 or 8, or phase not below it */
 
 /* A job: n inputs (1 to 12), m outputs (1 to 8), cell limits of k inputs (2 to 12) and l outputs (1 to 16), and an
  * order of n + m bytes, top first: input i is i, output i is 128 + i. The sheet is records of 8 bytes: 0 and 1 the mask
@@ -217,24 +219,31 @@ uint8_t cascade_narrow(const uint8_t *records, size_t records_length,
 /* The bank holds up to 8 blocks (a block is the records and rows of one cascade), and the scan state says how far a scan
  * has come and which outputs are set. Both are bytes that the caller keeps and lends to each call, with the row memory;
  * nobody else may write them between calls. Whatever they hold, a call reads and writes nothing but what it is lent: every
- * call but the first answers 12 where the bank holds an S out of range, more than 8 blocks, a block that is not well formed,
- * more cells than S or over 32,768 rows, or where a scan runs and its block, cell or rail word is none of those held.
+ * call but the first answers 12 where the bank holds an S out of range, more than 8 blocks, a block that is not well formed
+ * or has a wrong period or phase, in some scan more due cells than S, or over 32,768 rows; where the scan state has a number
+ * above 7; or where a scan runs and its block, cell or rail word is none of those held, or its block is not due.
+ *
+ * Scans are numbered 0 to 7 and round again, one number for each accepted latch; the first after an accepted admission, and
+ * of a new bank, is 0. A block has a period of 1, 2, 4 or 8 and a phase below it, and is due in the scans whose number leaves
+ * the phase as remainder by the period. A scan reads the cells of the due blocks alone; a block that is not due keeps its
+ * word and its outputs from its last due scan.
  *
  *   bank   0-1  S, low byte first     2  blocks held      3-10  the number of records of each place
- *          11   the records, 80 bytes a place
+ *          11   the records, 80 bytes a place             651-658, 659-666  the period and the phase of each place
  *   scan   0    not 0 while a scan has reads left         1, 2  block and cell of the next read
- *          3-4  its rail word         5-20  the latched words, two bytes each, low byte first
+ *          3-4  its rail word         5-20  the words, two bytes each, low byte first
  *          21   the outputs, 8 bytes a place: 0 or 1 where set, else CASCADE_NOT_SET
+ *          85   the number of the scan that runs or ran last; 7 before the first
  *
  * Nothing in them says how many bytes a row has: a bank filled when rows had one byte must be made anew, for a step would
  * read wrong rows.
  *
- * CASCADE_BANK_STACK is for each of the four. Time: each call but the first tests the records of all blocks held, at most
- * 160, and keeps nothing of it for the next; the rows held are not tested again. cascade_admit grows besides with the rows of
+ * CASCADE_BANK_STACK is for each of the five. Time: each call but the first tests the records of all blocks held, at most
+ * 160, and keeps nothing of it for the next; the rows held are not tested again. An admission grows besides with the rows of
  * the block, which it tests and copies. A step reads one row. */
 #define CASCADE_PLACES 8
-#define CASCADE_BANK_BYTES 651
-#define CASCADE_SCAN_BYTES 85
+#define CASCADE_BANK_BYTES 667
+#define CASCADE_SCAN_BYTES 86
 #define CASCADE_NOT_SET 2
 #define CASCADE_BANK_STACK 8192
 #define CASCADE_OUTPUT(scan, place, output) ((scan)[21 + 8 * (size_t)(place) + (size_t)(output)])
@@ -243,19 +252,28 @@ uint8_t cascade_narrow(const uint8_t *records, size_t records_length,
  * both are as they were. */
 uint8_t cascade_bank_new(size_t s, uint8_t bank[CASCADE_BANK_BYTES], uint8_t scan[CASCADE_SCAN_BYTES]);
 
-/* Admits a block: copies its records into the bank and appends its rows to the row memory, two bytes a row in both. All set
- * outputs are cleared and no scan runs. A block with one byte a row is not well formed, 12: cascade_widen makes it one.
- * Answers 0, or
- *   12 bank, scan state or block not well formed    13 8 blocks are held
- *   14 the cells of all blocks would exceed S       11 row memory short, or over 32,768 rows in all
+/* Admits a block that is read in the scans that its period and phase name: copies its records into the bank and appends its
+ * rows to the row memory, two bytes a row in both. All set outputs are cleared, no scan runs, and the next one is number 0.
+ * A block with one byte a row is not well formed, 12: cascade_widen makes it one. Answers 0, or
+ *   12 bank, scan state or block not well formed          16 period not 1, 2, 4 or 8, or phase not below it
+ *   13 8 blocks are held                                  14 in some scan of the eight the due cells would exceed S
+ *   11 row memory short, or over 32,768 rows in all
  * and then nothing changes. The first that holds in this order is answered. */
+uint8_t cascade_admit_every(uint8_t bank[CASCADE_BANK_BYTES], uint8_t scan[CASCADE_SCAN_BYTES],
+                            const uint8_t *records, size_t records_length,
+                            const uint8_t *block_rows, size_t block_rows_length,
+                            size_t period, size_t phase,
+                            uint8_t *rows, size_t rows_length);
+
+/* The same with period 1 and phase 0: the block is read in every scan. */
 uint8_t cascade_admit(uint8_t bank[CASCADE_BANK_BYTES], uint8_t scan[CASCADE_SCAN_BYTES],
                       const uint8_t *records, size_t records_length,
                       const uint8_t *block_rows, size_t block_rows_length,
                       uint8_t *rows, size_t rows_length);
 
-/* Latches eight words, one for each place, clears all set outputs and starts a scan. Bits above 11, and words for places
- * not held, have no effect. Answers 0, or 12 and nothing changes. */
+/* Latches eight words, one for each place, and starts the scan with the next number: blocks that are due take their word, and
+ * their set outputs are cleared; the others keep both. Bits above 11, and words for places that are not held or not due,
+ * have no effect. With nothing due there is nothing to read. Answers 0, or 12 and nothing changes. */
 uint8_t cascade_latch(const uint8_t bank[CASCADE_BANK_BYTES], uint8_t scan[CASCADE_SCAN_BYTES],
                       const uint16_t words[CASCADE_PLACES]);
 

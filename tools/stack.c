@@ -102,6 +102,12 @@ static void admit(void)
     refusal = cascade_admit(bank, scan, records, 4 * variables(), rows, CASCADE_ROW_SIZE * made_rows, held_rows, sizeof held_rows);
 }
 
+static void admit_every(void)
+{
+    refusal = cascade_admit_every(bank, scan, records, 4 * variables(), rows, CASCADE_ROW_SIZE * made_rows, 8, 7, held_rows,
+                                  sizeof held_rows);
+}
+
 static void latch(void)
 {
     static const uint16_t words[CASCADE_PLACES];
@@ -129,6 +135,7 @@ static const struct {
     {"cascade_compile", compile, CASCADE_COMPILE_STACK},
     {"cascade_known", evaluate, CASCADE_KNOWN_STACK},
     {"cascade_admit", admit, CASCADE_BANK_STACK},
+    {"cascade_admit_every", admit_every, CASCADE_BANK_STACK},
     {"cascade_latch", latch, CASCADE_BANK_STACK},
     {"cascade_step", step, CASCADE_BANK_STACK},
     {"cascade_narrow", narrow, CASCADE_MOVE_STACK},

@@ -1,2 +1,3 @@
 -- Laws of `src/formed.rt`.
+pub mod CountedCells
 pub mod HeldBlocks

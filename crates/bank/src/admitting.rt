@@ -4,12 +4,13 @@ ghost use Prim.Native.Nat.{_≤_, _<_, _+_, _*_};
 ghost use lib.ListN.{length, getD};
 ghost use Rattle.laws.specs.Lists.{putsAt};
 ghost use Rattle.bank_spec.specs.State.{emptyBank, atRest};
-ghost use Rattle.bank_spec.specs.Calls.{withBlock, admit};
+ghost use Rattle.bank_spec.specs.Calls.{handed, withBlock, admit};
 ghost use Rattle.bank_spec.specs.State.{stateOf};
 ghost use Rattle.bank.specs.Given.{givenNumber, started};
 use crate::Admitted;
 use crate::Started;
-use crate::formed::cells_before;
+use crate::due_blocks::timed;
+use crate::formed::cells_fit;
 use crate::formed::rows_before;
 use crate::formed::state_formed;
 use bank_spec::BANK_OUTPUTS;
@@ -30,6 +31,8 @@ fn empty_bank(limit: u16) -> Bank
         count: 0,
         lengths: [0u8; MOST_BLOCKS],
         records: [0u8; BANK_RECORD_BYTES],
+        periods: [0u8; MOST_BLOCKS],
+        phases: [0u8; MOST_BLOCKS],
     }
 }
 
@@ -42,6 +45,7 @@ pub fn at_rest() -> Scan
         block: 0,
         cell: 0,
         rail: 0,
+        number: 7,
         words: [0u16; MOST_BLOCKS],
         outputs: [2u8; BANK_OUTPUTS],
     }
@@ -84,20 +88,26 @@ fn copy_at(from: &[u8], at: usize, to: &mut [u8])
 }
 
 // The bank with one block more, of 1 to 20 records.
-fn with_block(bank: Bank, records: &[u8]) -> Bank
+fn with_block(bank: Bank, records: &[u8], bytes: &[u8], period: u8, phase: u8) -> Bank
     requires { ⌜ (bank .count < 8) × (length (now records) ≤ 80) ⌝ }
-    ensures { λ r. ⌜ r ≡ withBlock bank (now (records .entry)) ⌝ }
+    ensures { λ r. ⌜ r ≡ withBlock bank (handed (now (records .entry)) (now (bytes .entry)) period phase) ⌝ }
 {
     let count = wide(bank.count);
     let mut lengths = bank.lengths;
     lengths[count] = (records.len() / 4) as u8;
     let mut held = bank.records;
     copy_at(records, count * MOST_RECORD_BYTES, &mut held);
+    let mut periods = bank.periods;
+    periods[count] = period;
+    let mut phases = bank.phases;
+    phases[count] = phase;
     Bank {
         limit: bank.limit,
         count: bank.count + 1,
         lengths,
         records: held,
+        periods,
+        phases,
     }
 }
 
@@ -106,11 +116,13 @@ pub fn admit_block(
     scan: Scan,
     records: &[u8],
     bytes: &[u8],
+    period: usize,
+    phase: usize,
     rows: &mut [u8],
 ) -> Admitted
     ensures { λ r.
         ⌜ givenNumber (r .refusal) (r .bank) (r .scan) (now (rows .exit))
-        ≡ admit (stateOf bank scan (now (rows .entry))) (now (records .entry)) (now (bytes .entry)) ⌝ }
+        ≡ admit (stateOf bank scan (now (rows .entry))) (handed (now (records .entry)) (now (bytes .entry)) period phase) ⌝ }
 {
     if !state_formed(bank, scan) {
         return Admitted {
@@ -126,6 +138,15 @@ pub fn admit_block(
             scan,
         };
     }
+    if !timed(period, phase) {
+        return Admitted {
+            refusal: 16,
+            bank,
+            scan,
+        };
+    }
+    let period_byte = period as u8;
+    let phase_byte = phase as u8;
     let count = wide(bank.count);
     if MOST_BLOCKS <= count {
         return Admitted {
@@ -134,8 +155,13 @@ pub fn admit_block(
             scan,
         };
     }
-    let cells = cells_before(bank, count) + stored::cell_count(records);
-    if (bank.limit as usize) < cells {
+    if !cells_fit(
+        bank,
+        count,
+        period_byte,
+        phase_byte,
+        stored::cell_count(records),
+    ) {
         return Admitted {
             refusal: 14,
             bank,
@@ -154,7 +180,7 @@ pub fn admit_block(
     copy_at(bytes, at * 2, rows);
     Admitted {
         refusal: 0,
-        bank: with_block(bank, records),
+        bank: with_block(bank, records, bytes, period_byte, phase_byte),
         scan: at_rest(),
     }
 }

@@ -1,12 +1,18 @@
 // The test for 12: the bank and the scan state.
 ghost use mathlib.Core.Path.{_≡_};
-ghost use mathlib.Core.Bool.{true, _&&_};
-ghost use Prim.Native.Nat.{ℕ, _≤_, _<_, _^_};
-ghost use lib.Dec.{ltb};
+ghost use mathlib.Core.Bool.{true, cond, _&&_};
+ghost use Prim.Native.Nat.{ℕ, _≤_, _<_, _+_, _^_};
+ghost use lib.Dec.{leb, ltb};
+ghost use lib.ListN.{getD};
+ghost use Rattle.laws.specs.Lists.{tab};
 ghost use Rattle.laws.specs.Tests.{every};
 ghost use Rattle.stored_spec.specs.StoredForm.{cellCount, cellAt, rowCount};
 ghost use Rattle.stored.specs.Reads.{cellRails};
+ghost use Rattle.bank_spec.specs.Due.{timed, due};
 ghost use Rattle.bank_spec.specs.State.{recordsOf, blockFormed, cellsBefore, rowsBefore, bankFormed, scanFormed, formed};
+use crate::due_blocks::due_at;
+use crate::due_blocks::scans_fit;
+use crate::due_blocks::timed;
 use bank_spec::Bank;
 use bank_spec::MOST_BLOCKS;
 use bank_spec::MOST_SCAN;
@@ -17,7 +23,7 @@ use stored::CellRails;
 use stored_spec::MOST_RECORD_BYTES;
 use stored_spec::MOST_ROWS;
 
-// The block at place b has 1 to 20 records, and they are well formed.
+// The block at place b has 1 to 20 records, they are well formed, and its period and phase are not wrong.
 fn block_formed(bank: Bank, b: usize) -> bool
     requires { ⌜ b < 8 ⌝ }
     ensures { λ r. ⌜ r ≡ blockFormed bank b ⌝ }
@@ -28,6 +34,11 @@ fn block_formed(bank: Bank, b: usize) -> bool
         return false;
     }
     if MOST_VARIABLES < n {
+        return false;
+    }
+    let periods = bank.periods;
+    let phases = bank.phases;
+    if !timed(wide(periods[b]), wide(phases[b])) {
         return false;
     }
     let records = bank.records;
@@ -68,18 +79,18 @@ fn block_rows(bank: Bank, b: usize) -> usize
     stored::row_count(&records[b * MOST_RECORD_BYTES..b * MOST_RECORD_BYTES + n * 4])
 }
 
-// The cells, and the rows, of the blocks before place n.
-pub fn cells_before(bank: Bank, n: usize) -> usize
+// The cells of each of the first n blocks.
+fn cell_counts(bank: Bank, n: usize) -> [u8; MOST_BLOCKS]
     requires { ⌜ (n ≤ 8) × ((b : ℕ) → b < n → blockFormed bank b ≡ true) ⌝ }
-    ensures { λ r. ⌜ (r ≡ cellsBefore bank n) × (r ≤ 160) ⌝ }
+    ensures { λ r. ⌜ r ≡ tab 8 (λ b. cond (ltb b n) (cellCount (recordsOf bank b)) 0) ⌝ }
 {
-    let mut cells = 0;
+    let mut counts = [0u8; MOST_BLOCKS];
     let mut b = 0;
     while b < n {
-        cells = cells + block_cells(bank, b);
+        counts[b] = block_cells(bank, b) as u8;
         b += 1;
     }
-    cells
+    counts
 }
 
 pub fn rows_before(bank: Bank, n: usize) -> usize
@@ -93,6 +104,14 @@ pub fn rows_before(bank: Bank, n: usize) -> usize
         b += 1;
     }
     rows
+}
+
+// The same, the cells of the blocks counted.
+pub fn cells_fit(bank: Bank, n: usize, period: u8, phase: u8, cells: usize) -> bool
+    requires { ⌜ (n ≤ 8) × ((b : ℕ) → b < n → blockFormed bank b ≡ true) × (timed period phase ≡ true) × (cells ≤ 40) ⌝ }
+    ensures { λ r. ⌜ r ≡ every 8 (λ i. leb (cellsBefore bank i n + cond (due period phase i) cells 0) (bank .limit)) ⌝ }
+{
+    scans_fit(bank, cell_counts(bank, n), n, period, phase, cells)
 }
 
 fn bank_formed(bank: Bank) -> bool
@@ -110,9 +129,9 @@ fn bank_formed(bank: Bank) -> bool
         return false;
     }
     if blocks_formed(bank, count) {
-        let cells = cells_before(bank, count);
+        let fit = cells_fit(bank, count, 1, 0, 0);
         let rows = rows_before(bank, count);
-        return (cells <= limit as usize) & (rows <= MOST_ROWS);
+        return fit & (rows <= MOST_ROWS);
     }
     false
 }
@@ -152,19 +171,25 @@ fn read_formed(bank: Bank, b: usize, cell: usize, rail: usize) -> bool
     false
 }
 
-// Of a formed bank: with reads left, the block, cell and rail word are among those held.
+// Of a formed bank: a scan number up to 7, and with reads left a block that is due, and a cell and a rail word among those held.
 fn scan_formed(bank: Bank, scan: Scan) -> bool
     requires { ⌜ bankFormed bank ≡ true ⌝ }
     ensures { λ r. ⌜ r ≡ scanFormed bank scan ⌝ }
 {
-    if scan.running {
-        let b = wide(scan.block);
-        if b < wide(bank.count) {
-            return read_formed(bank, b, wide(scan.cell), scan.rail as usize);
-        }
+    if 7 < scan.number {
         return false;
     }
-    true
+    if !scan.running {
+        return true;
+    }
+    let b = wide(scan.block);
+    if wide(bank.count) <= b {
+        return false;
+    }
+    if due_at(bank, scan.number, b) {
+        return read_formed(bank, b, wide(scan.cell), scan.rail as usize);
+    }
+    false
 }
 
 // Bank and scan state hold nothing that gives 12.

@@ -1,6 +1,7 @@
 // The bank layer: admission, latch and step, on a bank and a scan state by value and a lent row memory; latch and step also on a scan
 // state that is lent.
 mod admitting;
+mod due_blocks;
 mod formed;
 mod latching;
 mod stepping;
@@ -9,7 +10,7 @@ ghost use mathlib.Core.Path.{_≡_};
 ghost use mathlib.Core.List.{List};
 ghost use Prim.Native.Nat.{ℕ};
 ghost use Rattle.bank_spec.specs.State.{formed};
-ghost use Rattle.bank_spec.specs.Calls.{admit, latch, step};
+ghost use Rattle.bank_spec.specs.Calls.{handed, everyScan, admit, latch, step};
 ghost use Rattle.bank_spec.specs.State.{stateOf};
 ghost use Rattle.bank.specs.Given.{givenNumber, givenAnswer, started};
 use bank_spec::Bank;
@@ -57,17 +58,35 @@ pub fn well_formed(bank: Bank, scan: Scan) -> bool
     formed::state_formed(bank, scan)
 }
 
-// Admits a block: 12, 13, 14 or 11 and nothing changes; else 0, its records are copied and its rows appended to the row memory, all set
-// outputs are cleared and no scan runs.
+// Admits a block with its period and phase: 12, 16, 13, 14 or 11 and nothing changes; else 0, its records are copied and its rows appended to
+// the row memory, all set outputs are cleared, no scan runs, and the next one is number 0.
+pub fn admit_every(
+    bank: Bank,
+    scan: Scan,
+    records: &[u8],
+    bytes: &[u8],
+    period: usize,
+    phase: usize,
+    rows: &mut [u8],
+) -> Admitted
+    ensures { λ r.
+        ⌜ givenNumber (r .refusal) (r .bank) (r .scan) (now (rows .exit))
+        ≡ admit (stateOf bank scan (now (rows .entry))) (handed (now (records .entry)) (now (bytes .entry)) period phase) ⌝ }
+{
+    admitting::admit_block(bank, scan, records, bytes, period, phase, rows)
+}
+
+// Admits a block that is due in every scan.
 pub fn admit(bank: Bank, scan: Scan, records: &[u8], bytes: &[u8], rows: &mut [u8]) -> Admitted
     ensures { λ r.
         ⌜ givenNumber (r .refusal) (r .bank) (r .scan) (now (rows .exit))
-        ≡ admit (stateOf bank scan (now (rows .entry))) (now (records .entry)) (now (bytes .entry)) ⌝ }
+        ≡ admit (stateOf bank scan (now (rows .entry))) (everyScan (now (records .entry)) (now (bytes .entry))) ⌝ }
 {
-    admitting::admit_block(bank, scan, records, bytes, rows)
+    admitting::admit_block(bank, scan, records, bytes, 1, 0, rows)
 }
 
-// Latches eight words, clears all set outputs and starts a scan; or 12 and nothing changes. The row memory takes no part.
+// Latches eight words: each block that is due in the next scan takes its word and its set outputs are cleared, and that scan starts; or 12 and nothing
+// changes. The row memory takes no part.
 pub fn latch(bank: Bank, scan: Scan, words: [u16; MOST_BLOCKS]) -> Latched
     ensures { λ r. ⌜ ((rows : List ℕ) → givenNumber (r .refusal) bank (r .scan) rows ≡ latch (stateOf bank scan rows) words) ⌝ }
 {

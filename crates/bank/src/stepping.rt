@@ -17,6 +17,7 @@ use crate::formed::block_cells;
 use crate::formed::block_rails;
 use crate::formed::rows_before;
 use crate::formed::state_formed;
+use crate::latching::scan_from;
 use bank_spec::BANK_OUTPUTS;
 use bank_spec::Bank;
 use bank_spec::Scan;
@@ -106,28 +107,12 @@ fn moved_on(bank: Bank, scan: Scan, x: u16) -> Scan
             block: scan.block,
             cell: scan.cell + 1,
             rail: rail_after(bank, scan, x),
+            number: scan.number,
             words,
             outputs,
         };
     }
-    if scan.block + 1 < bank.count {
-        return Scan {
-            running: true,
-            block: scan.block + 1,
-            cell: 0,
-            rail: 0,
-            words,
-            outputs,
-        };
-    }
-    Scan {
-        running: false,
-        block: 0,
-        cell: 0,
-        rail: 0,
-        words,
-        outputs,
-    }
+    scan_from(bank, scan.number, wide(scan.block) + 1, words, outputs)
 }
 
 pub fn step_once(bank: Bank, scan: Scan, rows: &[u8]) -> Stepped

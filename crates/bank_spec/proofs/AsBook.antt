@@ -10,6 +10,7 @@ use lib.Dec.{ltb}
 use lib.ListN.{length}
 use Rattle.laws.specs.Tests.{within}
 use Rattle.stored_spec.specs.RowBytes.{twoBytes, room}
+use Rattle.bank_spec.specs.Due.{numberAfter}
 use Rattle.stored_spec.proofs.Promises.{room-two}
 use Rattle.bank_spec.specs.State.{State, formed, rowsHeld, fresh}
 use Rattle.bank_spec.specs.Calls.{Answer, accepted, refused, idle, went, After, moved, nextRow, step}
@@ -23,7 +24,7 @@ use Rattle.bank_spec.proofs.StepAsBook.{step-same}
 module _ (S m : ℕ) where
   pub call-same : (s : State) (k : Book) → Related S m s k → (c : Call) → Match S m (call s c) (bookCall S m k c)
   unfolding call bookCall
-  call-same s k h (admission R bytes) = admit-same S m s k h R bytes
+  call-same s k h (admission c) = admit-same S m s k h c
   call-same s k h (latching ws) = latch-same S m s k h ws
   call-same s k h stepping = step-same S m s k h
 
@@ -44,6 +45,7 @@ module _ (S m : ℕ) where
   after-related (c ∷ cs) s k h = after-related cs (call s c .state) (bookCall S m k c .state) (call-same s k h c .related)
 
 pub fresh-related : (S : ℕ) → within 1 255 S ≡ true → (mem : List ℕ) → Related S (length mem) (fresh S mem) newBook
+unfolding numberAfter
 fresh-related S e mem =
     record {
       limit = refl;
@@ -52,9 +54,13 @@ fresh-related S e mem =
       count = refl;
       lengths = refl;
       records = refl;
+      periods = refl;
+      phases = refl;
       outputs = refl;
       rows = refl;
-      cells = omega arith;
+      number = omega arith;
+      next = refl;
+      cells = λ n l. omega arith;
       most = omega arith;
       fits = omega (arith, room-two 0);
       blocks = λ b l. absurd (not-suc-le-zero l);

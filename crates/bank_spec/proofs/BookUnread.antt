@@ -1,5 +1,5 @@
 -- Unread inputs replaced in a latch: the calls since are answered the same and set the same outputs, and the reads left set every output of
--- a compiled block to a value allowed for the words latched.
+-- a compiled block that is due to a value allowed for the words latched.
 -- Assumes nothing.
 use mathlib.Core.Path.{_≡_, refl, sym, _∙_, ap, ap₂, subst}
 use mathlib.Core.Bool.{Bool, true, false, cond, not, _||_, false≢true}
@@ -10,15 +10,18 @@ use native.Mathlib.Omega.{arith}
 use lib.Dec.{eqb, leb, ltb}
 use lib.ListN.{length, getD, take, length-map, List·getD-map, drop-of-length-le}
 use lib.Seq.{ext-getD}
-use Rattle.laws.proofs.Cases.{by-less}
+use Rattle.laws.proofs.Cases.{by-less, cond-yes, cond-no}
 use Rattle.sheet_spec.specs.Job.{Job}
 use Rattle.stored_spec.specs.StoredForm.{wellFormed, cellCount, rowCount}
 use Rattle.stored_spec.specs.RowBytes.{twoBytes, room}
-use Rattle.bank_spec.specs.Calls.{Answer, accepted, refused, numbered, After}
-use Rattle.bank_spec.specs.Book.{Block, Place, Book, noBlock, blockAt, cellsIn, rowsIn, bookRefusal, allPlaces, entered, bookAdmit, bookLatch, bookStep}
+use Rattle.laws.specs.Tests.{any}
+use Rattle.laws.proofs.Tests.{any-ext}
+use Rattle.bank_spec.specs.Due.{timed, dueCells}
+use Rattle.bank_spec.specs.Calls.{Answer, accepted, refused, numbered, After, Handed}
+use Rattle.bank_spec.specs.Book.{Block, Place, Book, noBlock, blockAt, isDue, dueCellsOf, cellsIn, rowsIn, bookRefusal, places, entered, bookAdmit, bookLatch, readFirst, bookStep}
 use Rattle.bank_spec.specs.CallLists.{Call, admission, latching, stepping, Entry, bookCall, bookAfter, outputsInBook, bookTrace, readsOf, stepsOf, ends, goesOn}
 use Rattle.bank_spec.specs.Demand3.{CompiledBy, SetAllowed, OnlyUnread}
-use Rattle.bank_spec.proofs.Scans.{afterCells, readIn, stepped, scan-over, length-places, cells-within}
+use Rattle.bank_spec.proofs.Scans.{afterCells, inScan, readIn, stepped, scan-over, length-places, cells-within, due-cells}
 use Rattle.bank_spec.proofs.BookScans.{refused-keeps, scan-goes, scan-reads}
 use Rattle.bank_spec.proofs.UnreadInputs.{same-scan}
 use Rattle.bank_spec.proofs.LatchKeeps.{Kept, kept-back, kept-on, kept-cells, kept-rows, latch-kept, stepped-kept, stepped-left, scanned-at}
@@ -35,52 +38,50 @@ abbrev entry : Answer → List (List ℕ) → Entry
 entry a os = record { answer = a; outputs = os }
 
 -- a refused admission changes nothing
-module _ (S m : ℕ) (k : Book) (R bytes : List ℕ) (cs : List Call) (no : eqb (bookRefusal S m (k .blocks) R bytes) 0 ≡ false) where
+module _ (S m : ℕ) (k : Book) (h : Handed) (cs : List Call) (no : eqb (bookRefusal S m (k .blocks) h) 0 ≡ false) where
   abbrev refusedAs : Answer
-  refusedAs = refused (bookRefusal S m (k .blocks) R bytes)
+  refusedAs = refused (bookRefusal S m (k .blocks) h)
 
-  admit-refused : bookAdmit S m k R bytes ≡ record { answer = refusedAs; state = k }
+  admit-refused : bookAdmit S m k h ≡ record { answer = refusedAs; state = k }
   unfolding bookAdmit numbered
-  admit-refused = ap (λ (t : Bool). record { answer = cond t accepted refusedAs; state = cond t (entered k R bytes) k }) no
+  admit-refused = ap (λ (t : Bool). record { answer = cond t accepted refusedAs; state = cond t (entered k h) k }) no
 
-  goes-refused : goesOn S m k (admission R bytes ∷ cs) ≡ goesOn S m k cs
+  goes-refused : goesOn S m k (admission h ∷ cs) ≡ goesOn S m k cs
   unfolding goesOn bookCall ends
-  goes-refused = ap (λ (r : After Book). cond (ends (admission R bytes) (r .answer)) false (goesOn S m (r .state) cs)) admit-refused
+  goes-refused = ap (λ (r : After Book). cond (ends (admission h) (r .answer)) false (goesOn S m (r .state) cs)) admit-refused
 
-  trace-refused : bookTrace S m k (admission R bytes ∷ cs) ≡ entry refusedAs (outputsInBook k) ∷ bookTrace S m k cs
+  trace-refused : bookTrace S m k (admission h ∷ cs) ≡ entry refusedAs (outputsInBook k) ∷ bookTrace S m k cs
   unfolding bookTrace bookCall
   trace-refused =
       ap (λ (r : After Book). entry (r .answer) (outputsInBook (r .state)) ∷ bookTrace S m (r .state) cs) admit-refused
 
--- refusals depend on records and rows alone
-same-refusal : (S m : ℕ) (bs cs : List Block) (R bytes : List ℕ) → Kept bs cs → bookRefusal S m bs R bytes ≡ bookRefusal S m cs R bytes
+-- refusals depend on what a latch and steps keep
+same-refusal : (S m : ℕ) (bs cs : List Block) (h : Handed) → Kept bs cs → bookRefusal S m bs h ≡ bookRefusal S m cs h
 unfolding bookRefusal
-same-refusal S m bs cs R bytes kept =
-    ap₂
-    (λ (n c : ℕ).
-    cond (not (wellFormed R bytes)) 12
-    (cond (leb 8 n) 13
-    (cond (ltb S (c + cellCount R)) 14 (cond (ltb m (room twoBytes (rowsIn bs + rowCount R)) || ltb 32768 (rowsIn bs + rowCount R)) 11 0))))
-    (kept .long) (kept-cells bs cs kept)
-    ∙ ap
-    (λ (r : ℕ).
-    cond (not (wellFormed R bytes)) 12
-    (cond (leb 8 (length cs)) 13
-    (cond (ltb S (cellsIn cs + cellCount R)) 14 (cond (ltb m (room twoBytes (r + rowCount R)) || ltb 32768 (r + rowCount R)) 11 0))))
-    (kept-rows bs cs kept)
+same-refusal S m bs cs h kept =
+    let over : List Block → ℕ → Bool = λ ds n. ltb S (cellsIn n ds + dueCells (h .period) (h .phase) n (h .records)) in
+    let from : ℕ → Bool → ℕ → ℕ =
+    λ n t r.
+    cond (not (wellFormed (h .records) (h .rows))) 12
+    (cond (not (timed (h .period) (h .phase))) 16
+    (cond (leb 8 n) 13 (cond t 14 (cond (ltb m (room twoBytes (r + rowCount (h .records))) || ltb 32768 (r + rowCount (h .records))) 11 0)))) in
+    ap₂ (λ (n : ℕ) (t : Bool). from n t (rowsIn bs)) (kept .long)
+    (any-ext (over bs) (over cs) 8
+    (λ n l. ap (λ (c : ℕ). ltb S (c + dueCells (h .period) (h .phase) n (h .records))) (kept-cells bs cs kept n)))
+    ∙ ap (from (length cs) (any 8 (over cs))) (kept-rows bs cs kept)
 
 -- what a step is answered depends on the places alone
-same-answer : (bs cs : List Block) (ps : List Place) → bookStep bs ps .answer ≡ bookStep cs ps .answer
-unfolding bookStep
-same-answer bs cs [] = refl
-same-answer bs cs (p ∷ ps) = refl
+same-answer : (k l : Book) (ps : List Place) → readFirst k ps .answer ≡ readFirst l ps .answer
+unfolding readFirst
+same-answer k l [] = refl
+same-answer k l (p ∷ ps) = refl
 
 pub stepped-on : (n s : ℕ) (k : Book) → stepped n (stepped s k) ≡ stepped (s + n) k
 unfolding stepped
 stepped-on zero s k = ap (λ (i : ℕ). stepped i k) (sym (add-zero s))
 stepped-on (suc n) s k =
     let e : suc (s + n) ≡ s + suc n = omega arith in
-    ap (λ (x : Book). bookStep (x .blocks) (x .toRead) .state) (stepped-on n s k) ∙ ap (λ (i : ℕ). stepped i k) e
+    ap (λ (x : Book). bookStep x .state) (stepped-on n s k) ∙ ap (λ (i : ℕ). stepped i k) e
 
 -- a latch with ws and one with vs, each with s steps after it
 module _ (k : Book) (ws vs : List ℕ) where
@@ -91,7 +92,7 @@ module _ (k : Book) (ws vs : List ℕ) where
   second s = stepped s (bookLatch k vs .state)
 
   abbrev Unread : ℕ → Type 0
-  Unread s = OnlyUnread (k .blocks) ws vs (take s (allPlaces (k .blocks)))
+  Unread s = OnlyUnread (k .blocks) ws vs (take s (places (k .next) (k .blocks)))
 
   pub both-kept : (s : ℕ) → Kept (second s .blocks) (first s .blocks)
   both-kept s =
@@ -107,10 +108,10 @@ module _ (k : Book) (ws vs : List ℕ) where
       → (blockAt (first s .blocks) b .outputs ≡ blockAt (second s .blocks) b .outputs)
       × (blockAt (first s .blocks) b .rail ≡ blockAt (second s .blocks) b .rail)
   same-at s b u h =
-      let n = cellsIn (k .blocks) in
+      let n = cellsIn (k .next) (k .blocks) in
       by-less s n (λ l. same-scan k ws vs s (omega arith) u b h)
       (λ l.
-      let all = same-scan k ws vs n (omega arith) (unread-fewer (k .blocks) ws vs (allPlaces (k .blocks)) n s l u) b h in
+      let all = same-scan k ws vs n (omega arith) (unread-fewer (k .blocks) ws vs (places (k .next) (k .blocks)) n s l u) b h in
       let p = scan-over k ws s l in
       let q = scan-over k vs s l in (
         ap (λ (x : Book). blockAt (x .blocks) b .outputs) p ∙ all .0 ∙ ap (λ (x : Book). blockAt (x .blocks) b .outputs) (sym q),
@@ -131,25 +132,25 @@ module _ (k : Book) (ws vs : List ℕ) where
   unfolding bookLatch
   same-left s = stepped-left s (bookLatch k vs .state) ∙ sym (stepped-left s (bookLatch k ws .state))
 
-  step-answered : (s : ℕ) → bookStep (second s .blocks) (second s .toRead) .answer ≡ bookStep (first s .blocks) (first s .toRead) .answer
-  step-answered s =
-      ap (λ (l : List Place). bookStep (second s .blocks) l .answer) (same-left s) ∙ same-answer (second s .blocks) (first s .blocks) (first s .toRead)
+  step-answered : (s : ℕ) → bookStep (second s) .answer ≡ bookStep (first s) .answer
+  unfolding bookStep
+  step-answered s = ap (λ (l : List Place). readFirst (second s) l .answer) (same-left s) ∙ same-answer (second s) (first s) (first s .toRead)
 
   module _ (S m : ℕ) where
     same-from : (since : List Call) (s : ℕ) → goesOn S m (first s) since ≡ true → Unread (s + stepsOf since)
         → (bookTrace S m (second s) since ≡ bookTrace S m (first s) since) × (goesOn S m (second s) since ≡ true)
     unfolding goesOn bookTrace bookCall stepsOf ends stepped
-    same-from [] s h u = (refl, refl)
-    same-from (admission R bytes ∷ cs) s h u =
-        let no = refused-keeps S m (first s) R bytes (goesOn S m (bookAdmit S m (first s) R bytes .state) cs) h .3 in
-        let is = same-refusal S m (second s .blocks) (first s .blocks) R bytes (both-kept s) in
+    same-from [] s g u = (refl, refl)
+    same-from (admission h ∷ cs) s g u =
+        let no = refused-keeps S m (first s) h (goesOn S m (bookAdmit S m (first s) h .state) cs) g .3 in
+        let is = same-refusal S m (second s .blocks) (first s .blocks) h (both-kept s) in
         let no′ = ap (λ (n : ℕ). eqb n 0) is ∙ no in
         let less : s ≤ s + stepsOf cs = omega arith in
-        let rest = same-from cs s (sym (goes-refused S m (first s) R bytes cs no) ∙ h) u in
-        let same = same-outputs s (unread-fewer (k .blocks) ws vs (allPlaces (k .blocks)) s (s + stepsOf cs) less u) in (
-          trace-refused S m (second s) R bytes cs no′ ∙ ap₂ (λ (e : Entry) (es : List Entry). e ∷ es) (ap₂ (λ (n : ℕ) (o : List (List ℕ)). entry (refused n) o) is same) (rest .0)
-              ∙ sym (trace-refused S m (first s) R bytes cs no),
-          goes-refused S m (second s) R bytes cs no′ ∙ rest .1,
+        let rest = same-from cs s (sym (goes-refused S m (first s) h cs no) ∙ g) u in
+        let same = same-outputs s (unread-fewer (k .blocks) ws vs (places (k .next) (k .blocks)) s (s + stepsOf cs) less u) in (
+          trace-refused S m (second s) h cs no′ ∙ ap₂ (λ (e : Entry) (es : List Entry). e ∷ es) (ap₂ (λ (n : ℕ) (o : List (List ℕ)). entry (refused n) o) is same) (rest .0)
+              ∙ sym (trace-refused S m (first s) h cs no),
+          goes-refused S m (second s) h cs no′ ∙ rest .1,
         )
     same-from (latching us ∷ cs) s h u = absurd (false≢true h)
     same-from (stepping ∷ cs) s h u =
@@ -157,7 +158,7 @@ module _ (k : Book) (ws vs : List ℕ) where
         let u′ = subst Unread e u in
         let less : suc s ≤ suc s + stepsOf cs = omega arith in
         let rest = same-from cs (suc s) h u′ in
-        let same = same-outputs (suc s) (unread-fewer (k .blocks) ws vs (allPlaces (k .blocks)) (suc s) (suc s + stepsOf cs) less u′) in
+        let same = same-outputs (suc s) (unread-fewer (k .blocks) ws vs (places (k .next) (k .blocks)) (suc s) (suc s + stepsOf cs) less u′) in
         (ap₂ (λ (e : Entry) (es : List Entry). e ∷ es) (ap₂ entry (step-answered s) same) (rest .0), rest .1)
 
     same-both : (since : List Call) → goesOn S m (bookLatch k ws .state) since ≡ true
@@ -178,39 +179,61 @@ pub same-goes : (S m : ℕ) (k : Book) (ws vs : List ℕ) (since : List Call) �
     → goesOn S m (bookLatch k vs .state) since ≡ true
 same-goes S m k ws vs since h u = same-both k ws vs S m since h u .1
 
--- the whole scan: nothing is left to read, and each output of a compiled block is set to an allowed value
+-- the whole scan: nothing is left to read, each output of a compiled block that is due is set to an allowed value, and a block that isn't due is as
+-- it was
 module _ (k : Book) (vs : List ℕ) where
+  abbrev all : ℕ
+  all = cellsIn (k .next) (k .blocks)
+
   abbrev whole : Book
-  whole = stepped (cellsIn (k .blocks)) (bookLatch k vs .state)
+  whole = stepped all (bookLatch k vs .state)
 
   whole-left : whole .toRead ≡ []
   unfolding bookLatch
   whole-left =
-      stepped-left (cellsIn (k .blocks)) (bookLatch k vs .state)
-      ∙ drop-of-length-le (allPlaces (k .blocks)) {i = cellsIn (k .blocks)} (omega (arith, length-places (k .blocks)))
+      stepped-left all (bookLatch k vs .state)
+      ∙ drop-of-length-le (places (k .next) (k .blocks)) {i = all} (omega (arith, length-places (k .next) (k .blocks)))
 
-  whole-at : (b : ℕ) → b < length (k .blocks)
+  whole-at : (b : ℕ) → b < length (k .blocks) → isDue (k .next) (blockAt (k .blocks) b) ≡ true
       → blockAt (whole .blocks) b ≡ afterCells (blockAt (k .blocks) b) (getD vs b 0) (cellCount (blockAt (k .blocks) b .records))
-  whole-at b h =
-      let all : readIn (k .blocks) (cellsIn (k .blocks)) b ≡ cellCount (blockAt (k .blocks) b .records) = omega (arith, cells-within (k .blocks) b h) in
-      scanned-at k vs (cellsIn (k .blocks)) b (omega arith) h ∙ ap (afterCells (blockAt (k .blocks) b) (getD vs b 0)) all
+  whole-at b h e =
+      let B = blockAt (k .blocks) b in
+      let read : readIn (k .next) (k .blocks) all b ≡ cellCount (B .records) =
+      omega (arith, cells-within (k .next) (k .blocks) b h, due-cells (k .next) B e) in
+      scanned-at k vs all b (omega arith) h ∙ ap (inScan (k .next) B (getD vs b 0)) read
+      ∙ cond-yes (isDue (k .next) B) (afterCells B (getD vs b 0) (cellCount (B .records))) B e
 
-  whole-allowed : (b : ℕ) → b < length (k .blocks) → (j : Job) (sheet : List ℕ) → CompiledBy j sheet (blockAt (k .blocks) b)
+  whole-allowed : (b : ℕ) → b < length (k .blocks) → isDue (k .next) (blockAt (k .blocks) b) ≡ true
+      → (j : Job) (sheet : List ℕ) → CompiledBy j sheet (blockAt (k .blocks) b)
       → (o : ℕ) → o < j .m → SetAllowed sheet (getD vs b 0) o (getD (blockAt (whole .blocks) b .outputs) o 2)
-  whole-allowed b h j sheet c o l =
-      subst (λ (B : Block). SetAllowed sheet (getD vs b 0) o (getD (B .outputs) o 2)) (sym (whole-at b h))
+  whole-allowed b h e j sheet c o l =
+      subst (λ (B : Block). SetAllowed sheet (getD vs b 0) o (getD (B .outputs) o 2)) (sym (whole-at b h e))
       (compiled-whole j sheet (blockAt (k .blocks) b) c (getD vs b 0) o l)
 
+-- a block that isn't due is as it was, after any number of steps
+pub not-due-at : (k : Book) (ws : List ℕ) (s b : ℕ) → b < length (k .blocks) → isDue (k .next) (blockAt (k .blocks) b) ≡ false
+    → blockAt (stepped s (bookLatch k ws .state) .blocks) b ≡ blockAt (k .blocks) b
+not-due-at k ws s b h e =
+    let n = cellsIn (k .next) (k .blocks) in
+    by-less s n (λ l. within s (omega arith))
+    (λ l. ap (λ (x : Book). blockAt (x .blocks) b) (scan-over k ws s l) ∙ within n (omega arith))
+  where
+    within : (s : ℕ) → s ≤ cellsIn (k .next) (k .blocks) → blockAt (stepped s (bookLatch k ws .state) .blocks) b ≡ blockAt (k .blocks) b
+    within s l =
+        let B = blockAt (k .blocks) b in
+        scanned-at k ws s b l h ∙ cond-no (isDue (k .next) B) (afterCells B (getD ws b 0) (readIn (k .next) (k .blocks) s b)) B e
+
 pub reads-left : (S m : ℕ) (k : Book) (vs : List ℕ) (since : List Call) → goesOn S m (bookLatch k vs .state) since ≡ true
-    → (n : ℕ) → n ≡ cellsIn (k .blocks) - min (stepsOf since) (cellsIn (k .blocks))
+    → (n : ℕ) → n ≡ cellsIn (k .next) (k .blocks) - min (stepsOf since) (cellsIn (k .next) (k .blocks))
     → (stepped n (bookAfter S m (bookLatch k vs .state) since) .toRead ≡ [])
-    × ((b : ℕ) → b < length (k .blocks) → (j : Job) (sheet : List ℕ) → CompiledBy j sheet (blockAt (k .blocks) b)
+    × ((b : ℕ) → b < length (k .blocks) → isDue (k .next) (blockAt (k .blocks) b) ≡ true
+    → (j : Job) (sheet : List ℕ) → CompiledBy j sheet (blockAt (k .blocks) b)
     → (o : ℕ) → o < j .m → SetAllowed sheet (getD vs b 0) o (getD (blockAt (stepped n (bookAfter S m (bookLatch k vs .state) since) .blocks) b .outputs) o 2))
 reads-left S m k vs since h n is =
     let all : stepped n (bookAfter S m (bookLatch k vs .state) since) ≡ whole k vs =
     ap (stepped n) (scan-goes S m k vs since h) ∙ stepped-on n (stepsOf since) (bookLatch k vs .state)
     ∙ scan-over k vs (stepsOf since + n) (omega arith) in (
       ap (λ (x : Book). x .toRead) all ∙ whole-left k vs,
-      λ b l j sheet c o p.
-          subst (λ (x : Book). SetAllowed sheet (getD vs b 0) o (getD (blockAt (x .blocks) b .outputs) o 2)) (sym all) (whole-allowed k vs b l j sheet c o p),
+      λ b l e j sheet c o p.
+          subst (λ (x : Book). SetAllowed sheet (getD vs b 0) o (getD (blockAt (x .blocks) b .outputs) o 2)) (sym all) (whole-allowed k vs b l e j sheet c o p),
     )

@@ -24,4 +24,4 @@ trace-append (c ∷ cs) ds s =
 pub steps-after : (S m n : ℕ) (k : Book) → bookAfter S m k (replicate n stepping) ≡ stepped n k
 unfolding bookAfter bookCall stepped
 steps-after S m zero k = refl
-steps-after S m (suc n) k = steps-after S m n (bookStep (k .blocks) (k .toRead) .state) ∙ stepped-front n k
+steps-after S m (suc n) k = steps-after S m n (bookStep k .state) ∙ stepped-front n k

@@ -9,12 +9,12 @@ use Rattle.cutting_spec.specs.Opened.{cuttingOpened}
 use Rattle.cutting_spec.specs.Example.{recordsA, rowBytesA}
 use Rattle.bank_spec.specs.Opened.{bankOpened}
 use Rattle.bank_spec.specs.State.{fresh}
-use Rattle.bank_spec.specs.Calls.{Answer, accepted, refused, idle, went}
+use Rattle.bank_spec.specs.Calls.{Answer, accepted, refused, idle, went, everyScan}
 use Rattle.bank_spec.specs.Book.{newBook}
 use Rattle.bank_spec.specs.CallLists.{Call, admission, latching, stepping, Entry, trace, bookTrace}
 
 abbrev admitA : Call
-admitA = admission recordsA rowBytesA
+admitA = admission (everyScan recordsA rowBytesA)
 
 abbrev answers : List Entry → List Answer
 answers es = map (λ e. e .answer) es

@@ -13,7 +13,11 @@ pub use Rattle.bank_spec.proofs.CompiledAs.{as-compiled}
 pub use Rattle.bank_spec.proofs.CompiledBlocks.{compiled-bytes, compiled-formed, compiled-outputs, compiled-whole}
 -- and it is one for every arrangement of its sheet's records
 pub use Rattle.bank_spec.proofs.LineOrder.{compiled-same, allowed-same}
--- each block in a book has read some of its cells for its word; in a scan, those among the first s
+-- each block in a book has read some of its cells for its word; in a scan in which it is due, those among the first s
 pub use Rattle.bank_spec.proofs.BookHolds.{book-runs, scan-outputs}
+-- of a block that is due a scan reads every cell
+pub use Rattle.bank_spec.proofs.Scans.{due-cells}
+-- a right period and phase are small
+pub use Rattle.bank_spec.proofs.Timed.{timed-small}
 -- demand 3
 pub use Rattle.bank_spec.proofs.Demand3.{demand3}

@@ -22,25 +22,27 @@ use Rattle.stored_spec.specs.RowBytes.{twoBytes, rowValue, room}
 use Rattle.stored_spec.specs.StoredForm.{wellFormed, cellCount, cellAt, rowCount}
 use Rattle.stored_spec.specs.Run.{rowPlace, outputsAfter, railAfter}
 use Rattle.stored_spec.proofs.Promises.{some-cell, rails-follow, row-within, same-place, set-length}
-use Rattle.bank_spec.specs.State.{State, Scan, recordsOf, rowsBefore, rowsHeld, formed}
-use Rattle.bank_spec.specs.Calls.{idle, went, After, scanAt, nextRow, outputsOf, moved, step}
-use Rattle.bank_spec.specs.Book.{Block, Place, Book, noBlock, blockAt, allPlaces, readCell, bookStep}
-use Rattle.bank_spec.proofs.Scans.{noPlace, length-places, place-of}
-use Rattle.bank_spec.proofs.LatchKeeps.{kept-places}
+use Rattle.bank_spec.specs.Due.{timed, numberAfter}
+use Rattle.bank_spec.specs.State.{State, Scan, recordsOf, nextDue, rowsBefore, rowsHeld, formed}
+use Rattle.bank_spec.specs.Calls.{idle, went, After, scanAt, scanFrom, nextRow, outputsOf, moved, step}
+use Rattle.bank_spec.specs.Book.{Block, Place, Book, noBlock, blockAt, isDue, dueCellsOf, places, readCell, readFirst, bookStep}
+use Rattle.bank_spec.proofs.Scans.{cellsAbove, noPlace, length-places, place-of, due-cells}
+use Rattle.bank_spec.proofs.LatchKeeps.{Kept, kept-due, kept-due-cells, kept-places}
+use Rattle.bank_spec.proofs.NextDue.{skipped-to, skipped-due, skipped-cells, next-from}
 use Rattle.laws.proofs.Parts.{part, part-before, part-written, part-after}
-use Rattle.bank_spec.proofs.Related.{recordsIn, total, SameBlock, Stands, Related, Match, cells-in, rows-before, rows-held, records-formed, all-formed}
+use Rattle.bank_spec.proofs.Related.{recordsIn, rowsAbove, SameBlock, Stands, Related, Match, cells-in, rows-before, rows-held, records-formed, all-formed}
 
 -- the cells from place (b, c) on
-module _ (bs : List Block) where
-  all-cells : length (allPlaces bs) ≡ total cellCount bs (length bs)
-  all-cells = length-places bs ∙ cells-in bs
+module _ (n : ℕ) (bs : List Block) where
+  all-cells : length (places n bs) ≡ cellsAbove n bs (length bs)
+  all-cells = length-places n bs ∙ cells-in n bs
 
-  place-next : (b c : ℕ) → b < length bs → c < cellCount (recordsIn bs b)
-      → drop (total cellCount bs b + c) (allPlaces bs) ≡ record { block = b; cell = c } ∷ drop (suc (total cellCount bs b + c)) (allPlaces bs)
+  place-next : (b c : ℕ) → b < length bs → c < dueCellsOf n (blockAt bs b)
+      → drop (cellsAbove n bs b + c) (places n bs) ≡ record { block = b; cell = c } ∷ drop (suc (cellsAbove n bs b + c)) (places n bs)
   place-next b c l p =
-      let at = total cellCount bs b + c in
-      drop-cons (allPlaces bs) at noPlace (omega (arith, all-cells, sum-at (λ i. cellCount (recordsIn bs i)) (length bs) b l))
-      ∙ ap (λ (q : Place). q ∷ drop (suc at) (allPlaces bs)) (place-of bs b c l p)
+      let at = cellsAbove n bs b + c in
+      drop-cons (places n bs) at noPlace (omega (arith, all-cells, sum-at (λ i. dueCellsOf n (blockAt bs i)) (length bs) b l))
+      ∙ ap (λ (q : Place). q ∷ drop (suc at) (places n bs)) (place-of n bs b c l p)
 
 -- the outputs of all places after those of place b become vs
 module _ (l : List ℕ) (b : ℕ) (vs : List ℕ) (size : length vs ≡ 8) (fits : b * 8 + length vs ≤ length l) where
@@ -79,11 +81,21 @@ module _ (S m : ℕ) (s : State) (k : Book) (h : Related S m s k) (on : s .scan 
   abbrev bs′ : List Block
   bs′ = set bs b (readCell (blockAt bs b) c)
 
+  -- the number of the scan, how many cells it has read, and the next block that is due
+  abbrev z : ℕ
+  z = s .scan .number
+
   abbrev j : ℕ
-  j = total cellCount bs b + c
+  j = cellsAbove z bs b + c
+
+  abbrev d : ℕ
+  d = nextDue (s .bank) z (b + 1)
 
   abbrev k′ : Book
-  k′ = record { blocks = bs′; toRead = drop (suc j) (allPlaces bs) }
+  k′ = record { blocks = bs′; toRead = drop (suc j) (places z bs); next = k .next }
+
+  own-cells : dueCellsOf z (blockAt bs b) ≡ cellCount R
+  own-cells = due-cells z (blockAt bs b) (q .dueNow)
 
   in-bank : recordsOf (s .bank) b ≡ R
   in-bank = h .blocks b (q .block) .records
@@ -94,13 +106,13 @@ module _ (S m : ℕ) (s : State) (k : Book) (h : Related S m s k) (on : s .scan 
       let w = getD (s .scan .words) b 0 in
       ap (λ (R : List ℕ). rowValue twoBytes (s .rows) (rowsBefore (s .bank) b + rowPlace R c (s .scan .rail) w)) in-bank
       ∙ ap₂ (λ (y z : ℕ). rowValue twoBytes (s .rows) (y + z)) (rows-before S m s k h b (omega (arith, q .block)))
-      (same-place R (records-formed S m s k h b (q .block)) c (s .scan .rail) w (blockAt bs b .word) (q .words b (q .block))
+      (same-place R (records-formed S m s k h b (q .block)) c (s .scan .rail) w (blockAt bs b .word) (q .words b (q .block) (q .dueNow))
       ∙ ap (λ (r : ℕ). rowPlace R c r (blockAt bs b .word)) (q .rail))
       ∙ h .blocks b (q .block) .rows (rowPlace R c (blockAt bs b .rail) (blockAt bs b .word))
       (row-within R c (blockAt bs b .rail) (blockAt bs b .word) (q .cell) (rw (q .rail) at (q .small)))
 
-  left : k .toRead ≡ record { block = b; cell = c } ∷ drop (suc j) (allPlaces bs)
-  left = q .toRead ∙ place-next bs b c (q .block) (q .cell)
+  left : k .toRead ≡ record { block = b; cell = c } ∷ drop (suc j) (places z bs)
+  left = q .toRead ∙ place-next z bs b c (q .block) (omega (arith, own-cells, q .cell))
 
   here : blockAt bs′ b ≡ readCell (blockAt bs b) c
   here = getD-set-same bs b (readCell (blockAt bs b) c) noBlock (q .block)
@@ -128,14 +140,29 @@ module _ (S m : ℕ) (s : State) (k : Book) (h : Related S m s k) (on : s .scan 
   unfolding readCell
   same-word = keeps (λ (y : Block). y .word) refl
 
-  same-total : (f : List ℕ → ℕ) (a : ℕ) → total f bs′ a ≡ total f bs a
-  same-total f a = sum-ext (λ i. f (recordsIn bs′ i)) (λ i. f (recordsIn bs i)) a (λ i p. ap f (same-records i))
+  same-period : (a : ℕ) → blockAt bs′ a .period ≡ blockAt bs a .period
+  unfolding readCell
+  same-period = keeps (λ (y : Block). y .period) refl
 
-  total-all : (f : List ℕ → ℕ) → total f bs′ (length bs′) ≡ total f bs n
-  total-all f = ap (total f bs′) same-length ∙ same-total f n
+  same-phase : (a : ℕ) → blockAt bs′ a .phase ≡ blockAt bs a .phase
+  unfolding readCell
+  same-phase = keeps (λ (y : Block). y .phase) refl
 
-  same-places : allPlaces bs′ ≡ allPlaces bs
-  same-places = kept-places bs′ bs (record { long = same-length; records = same-records; rows = same-rows })
+  same-kept : Kept bs′ bs
+  same-kept = record { long = same-length; records = same-records; rows = same-rows; period = same-period; phase = same-phase }
+
+  same-due : (a : ℕ) → isDue z (blockAt bs′ a) ≡ isDue z (blockAt bs a)
+  same-due a = kept-due bs′ bs same-kept z a
+
+  same-total : (a : ℕ) → rowsAbove bs′ a ≡ rowsAbove bs a
+  same-total a = sum-ext (λ i. rowCount (recordsIn bs′ i)) (λ i. rowCount (recordsIn bs i)) a (λ i p. ap rowCount (same-records i))
+
+  same-cells : (i a : ℕ) → cellsAbove i bs′ a ≡ cellsAbove i bs a
+  same-cells i a =
+      sum-ext (λ y. dueCellsOf i (blockAt bs′ y)) (λ y. dueCellsOf i (blockAt bs y)) a (λ y p. kept-due-cells bs′ bs same-kept i y)
+
+  same-places : places z bs′ ≡ places z bs
+  same-places = kept-places bs′ bs same-kept z
 
   -- the outputs after the read
   abbrev set-now : List ℕ
@@ -177,16 +204,19 @@ module _ (S m : ℕ) (s : State) (k : Book) (h : Related S m s k) (on : s .scan 
         record {
           size = e .size;
           records = e .records ∙ sym (same-records a);
+          period = e .period ∙ sym (same-period a);
+          phase = e .phase ∙ sym (same-phase a);
+          timing = ap₂ timed (same-period a) (same-phase a) ∙ e .timing;
           well = ap₂ wellFormed (same-records a) (same-rows a) ∙ e .well;
           rows =
               λ i p.
               let p′ : i < rowCount (recordsIn bs a) = rw (same-records a) at p in
-              ap (λ (y : ℕ). rowValue twoBytes (s .rows) (y + i)) (same-total rowCount a) ∙ e .rows i p′ ∙ ap (λ (y : List ℕ). rowValue twoBytes y i) (sym (same-rows a));
+              ap (λ (y : ℕ). rowValue twoBytes (s .rows) (y + i)) (same-total a) ∙ e .rows i p′ ∙ ap (λ (y : List ℕ). rowValue twoBytes y i) (sym (same-rows a));
           outputs = ap (part (a * 8) 8) o ∙ part-outs a l;
         }
 
-    moved-on : (scan .running ≡ false → k′ .toRead ≡ []) → (scan .running ≡ true → Stands scan k′) → Related S m t k′
-    moved-on f g =
+    moved-on : scan .number ≡ z → (scan .running ≡ false → k′ .toRead ≡ []) → (scan .running ≡ true → Stands scan k′) → Related S m t k′
+    moved-on w f g =
         record {
           limit = h .limit;
           range = h .range;
@@ -194,30 +224,35 @@ module _ (S m : ℕ) (s : State) (k : Book) (h : Related S m s k) (on : s .scan 
           count = h .count ∙ sym same-length;
           lengths = h .lengths;
           records = h .records;
+          periods = h .periods;
+          phases = h .phases;
           outputs = ap (λ (y : List ℕ). length y) o ∙ length-written (s .scan .outputs) (b * 8) set-now outs-fit ∙ h .outputs;
           rows = h .rows;
-          cells = omega (arith, total-all cellCount, h .cells);
-          most = omega (arith, total-all rowCount, h .most);
-          fits = omega (arith, ap (room twoBytes) (total-all rowCount), h .fits);
+          number = omega (arith, w, h .number);
+          next = ap numberAfter w ∙ h .next;
+          cells = λ i l. omega (arith, ap (cellsAbove i bs′) same-length, same-cells i n, h .cells i l);
+          most = omega (arith, ap (rowsAbove bs′) same-length, same-total n, h .most);
+          fits = omega (arith, ap (λ (x : ℕ). room twoBytes (rowsAbove bs′ x)) same-length, ap (room twoBytes) (same-total n), h .fits);
           blocks = λ a l. moved-block a (omega (arith, same-length));
           rests = f;
           runs = g;
         }
 
-  -- the scan state left, by whether the block has a cell more, and the bank a block more
+  -- the scan state left, by whether the block has a cell more, and a later block is due
   abbrev left-by : Bool → Bool → Scan
   left-by more next =
-      cond more (scanAt true b (c + 1) (railAfter (cellAt R c) x) (s .scan .words) outs)
-      (cond next (scanAt true (b + 1) 0 0 (s .scan .words) outs) (scanAt false 0 0 0 (s .scan .words) outs))
+      cond more (scanAt true b (c + 1) (railAfter (cellAt R c) x) z (s .scan .words) outs)
+      (cond next (scanAt true d 0 0 z (s .scan .words) outs) (scanAt false 0 0 0 z (s .scan .words) outs))
 
   next-cell : c + 1 < cellCount R → Stands (left-by true true) k′
   unfolding railAfter readCell
   next-cell l =
       record {
         block = omega (arith, same-length, q .block);
+        dueNow = same-due b ∙ q .dueNow;
         cell = rw (same-records b) l;
         toRead =
-            let e : suc j ≡ total cellCount bs′ b + (c + 1) = omega (arith, same-total cellCount b) in
+            let e : suc j ≡ cellsAbove z bs′ b + (c + 1) = omega (arith, same-cells z b) in
             ap₂ (λ (i : ℕ) (ps : List Place). drop i ps) e (sym same-places);
         rail = ap (λ (y : Block). y .rail) (sym here);
         small =
@@ -225,54 +260,67 @@ module _ (S m : ℕ) (s : State) (k : Book) (h : Related S m s k) (on : s .scan 
             ap₂ (λ (y : List ℕ) (i : ℕ). cellAt y i .upper) (same-records b) (add-one c)
             ∙ rails-follow R (records-formed S m s k h b (q .block)) c (omega arith) in
             rw e (mod-lt x (pow-pos (cellAt R c .lower)));
-        later = λ a u v. ap (λ (y : Block). y .rail) (there a (λ p. omega arith)) ∙ q .later a u (omega (arith, same-length));
+        later =
+            λ a u v g.
+            ap (λ (y : Block). y .rail) (there a (λ p. omega arith)) ∙ q .later a u (omega (arith, same-length)) (sym (same-due a) ∙ g);
         words =
-            λ a u i p.
-            q .words a (omega (arith, same-length)) i p ∙ ap (λ (w : ℕ). bit w i) (sym (same-word a));
+            λ a u g i p.
+            q .words a (omega (arith, same-length)) (sym (same-due a) ∙ g) i p ∙ ap (λ (w : ℕ). bit w i) (sym (same-word a));
       }
 
-  next-block : cellCount R ≤ c + 1 → b + 1 < n → Stands (left-by false true) k′
+  block-after : b + 1 ≤ n
+  block-after = omega (arith, q .block)
+
+  -- all cells of this block are read, and none between it and the next
+  cells-done : cellCount R ≤ c + 1 → suc j ≡ cellsAbove z bs d
+  cells-done l =
+      omega (arith, skipped-cells S m s k h z (b + 1) block-after, ap (cellsAbove z bs) (add-one b), own-cells, q .cell)
+
+  next-block : cellCount R ≤ c + 1 → d < n → Stands (left-by false true) k′
   next-block l g =
+      let after : b + 1 ≤ d = next-from (s .bank) z (b + 1) (omega (arith, h .count, block-after)) in
+      let now = skipped-due S m s k h z (b + 1) block-after g in
       record {
         block = omega (arith, same-length);
-        cell = rw (same-records (b + 1)) (some-cell (recordsIn bs (b + 1)) (records-formed S m s k h (b + 1) g));
+        dueNow = same-due d ∙ now;
+        cell = rw (same-records d) (some-cell (recordsIn bs d) (records-formed S m s k h d g));
         toRead =
-            let e : suc j ≡ total cellCount bs′ (b + 1) + 0 =
-            omega (arith, ap (total cellCount bs) (add-one b), same-total cellCount (b + 1), q .cell) in
+            let e : suc j ≡ cellsAbove z bs′ d + 0 = omega (arith, cells-done l, same-cells z d) in
             ap₂ (λ (i : ℕ) (ps : List Place). drop i ps) e (sym same-places);
-        rail = sym (ap (λ (y : Block). y .rail) (there (b + 1) (λ p. omega arith)) ∙ q .later (b + 1) (omega arith) g);
-        small = pow-pos (cellAt (recordsIn bs′ (b + 1)) 0 .upper);
-        later = λ a u v. ap (λ (y : Block). y .rail) (there a (λ p. omega arith)) ∙ q .later a (omega arith) (omega (arith, same-length));
+        rail = sym (ap (λ (y : Block). y .rail) (there d (λ p. omega arith)) ∙ q .later d (omega arith) g now);
+        small = pow-pos (cellAt (recordsIn bs′ d) 0 .upper);
+        later =
+            λ a u v e.
+            ap (λ (y : Block). y .rail) (there a (λ p. omega arith)) ∙ q .later a (omega arith) (omega (arith, same-length)) (sym (same-due a) ∙ e);
         words =
-            λ a u i p.
-            q .words a (omega (arith, same-length)) i p ∙ ap (λ (w : ℕ). bit w i) (sym (same-word a));
+            λ a u e i p.
+            q .words a (omega (arith, same-length)) (sym (same-due a) ∙ e) i p ∙ ap (λ (w : ℕ). bit w i) (sym (same-word a));
       }
 
-  all-read : cellCount R ≤ c + 1 → n ≤ b + 1 → k′ .toRead ≡ []
+  all-read : cellCount R ≤ c + 1 → n ≤ d → k′ .toRead ≡ []
   all-read l g =
-      let e : b + 1 ≡ n = omega (arith, q .block) in
-      let last : suc j ≡ length (allPlaces bs) =
-      omega (arith, all-cells bs, ap (total cellCount bs) (sym (add-one b) ∙ e), q .cell) in
-      ap (λ (i : ℕ). drop i (allPlaces bs)) last ∙ drop-length (allPlaces bs)
+      let e : d ≡ n = omega (arith, skipped-to S m s k h z (b + 1) block-after) in
+      let last : suc j ≡ length (places z bs) = omega (arith, all-cells z bs, cells-done l, ap (cellsAbove z bs) e) in
+      ap (λ (i : ℕ). drop i (places z bs)) last ∙ drop-length (places z bs)
 
-  kept : (more next : Bool) → ltb (c + 1) (cellCount R) ≡ more → ltb (b + 1) n ≡ next
+  kept : (more next : Bool) → ltb (c + 1) (cellCount R) ≡ more → ltb d n ≡ next
       → Related S m (record { bank = s .bank; scan = left-by more next; rows = s .rows }) k′
-  kept true next e f = moved-on (left-by true next) refl (λ p. absurd (true≢false p)) (λ p. next-cell (ltb-true (c + 1) (cellCount R) e))
+  kept true next e f = moved-on (left-by true next) refl refl (λ p. absurd (true≢false p)) (λ p. next-cell (ltb-true (c + 1) (cellCount R) e))
   kept false true e f =
-      moved-on (left-by false true) refl (λ p. absurd (true≢false p))
-      (λ p. next-block (ltb-false (c + 1) (cellCount R) e) (ltb-true (b + 1) n f))
+      moved-on (left-by false true) refl refl (λ p. absurd (true≢false p))
+      (λ p. next-block (ltb-false (c + 1) (cellCount R) e) (ltb-true d n f))
   kept false false e f =
-      moved-on (left-by false false) refl (λ p. all-read (ltb-false (c + 1) (cellCount R) e) (ltb-false (b + 1) n f)) (λ p. absurd (false≢true p))
+      moved-on (left-by false false) refl refl (λ p. all-read (ltb-false (c + 1) (cellCount R) e) (ltb-false d n f)) (λ p. absurd (false≢true p))
 
-  moved-is : moved (s .bank) (s .scan) (nextRow (s .bank) (s .scan) (s .rows)) ≡ left-by (ltb (c + 1) (cellCount R)) (ltb (b + 1) n)
-  unfolding moved
+  moved-is : moved (s .bank) (s .scan) (nextRow (s .bank) (s .scan) (s .rows)) ≡ left-by (ltb (c + 1) (cellCount R)) (ltb d n)
+  unfolding moved scanFrom
   moved-is = rw (next-row, in-bank, h .count) refl
 
   abbrev read : After State
   read =
       record {
         answer = went b c;
-        state = record { bank = s .bank; scan = left-by (ltb (c + 1) (cellCount R)) (ltb (b + 1) n); rows = s .rows };
+        state = record { bank = s .bank; scan = left-by (ltb (c + 1) (cellCount R)) (ltb d n); rows = s .rows };
       }
 
   step-is : step s ≡ read
@@ -283,24 +331,21 @@ module _ (S m : ℕ) (s : State) (k : Book) (h : Related S m s k) (on : s .scan 
       (le-ltb (length (s .rows)) (room twoBytes (rowsHeld (s .bank))) (omega (arith, ap (room twoBytes) (rows-held S m s k h), h .rows, h .fits)))
       ∙ ap (λ (t : Scan). record { answer = went b c; state = record { bank = s .bank; scan = t; rows = s .rows } }) moved-is
 
-  book-is : bookStep bs (k .toRead) ≡ record { answer = went b c; state = k′ }
-  unfolding bookStep
-  book-is = ap (bookStep bs) left
+  book-is : bookStep k ≡ record { answer = went b c; state = k′ }
+  unfolding bookStep readFirst
+  book-is = ap (readFirst k) left
 
-  read-same : Match S m (step s) (bookStep bs (k .toRead))
-  read-same = rw (step-is, book-is) (record { answers = refl; related = kept (ltb (c + 1) (cellCount R)) (ltb (b + 1) n) refl refl })
+  read-same : Match S m (step s) (bookStep k)
+  read-same = rw (step-is, book-is) (record { answers = refl; related = kept (ltb (c + 1) (cellCount R)) (ltb d n) refl refl })
 
 module _ (S m : ℕ) (s : State) (k : Book) (h : Related S m s k) where
-  rest-same : s .scan .running ≡ false → Match S m (step s) (bookStep (k .blocks) (k .toRead))
-  unfolding step bookStep
+  rest-same : s .scan .running ≡ false → Match S m (step s) (bookStep k)
+  unfolding step bookStep readFirst
   rest-same e =
-      let none = h .rests e in
-      let h′ : Related S m s (record { blocks = k .blocks; toRead = [] }) = rw none at h in
       let rests : step s ≡ record { answer = idle; state = s } =
       cond-no (not (formed (s .bank) (s .scan))) _ _ (ap not (all-formed S m s k h)) ∙ cond-yes (not (s .scan .running)) _ _ (ap not e) in
-      let nothing : bookStep (k .blocks) (k .toRead) ≡ record { answer = idle; state = record { blocks = k .blocks; toRead = [] } } =
-      ap (bookStep (k .blocks)) none in
-      rw (rests, nothing) (record { answers = refl; related = h′ })
+      let nothing : bookStep k ≡ record { answer = idle; state = k } = ap (readFirst k) (h .rests e) in
+      rw (rests, nothing) (record { answers = refl; related = h })
 
-  pub step-same : Match S m (step s) (bookStep (k .blocks) (k .toRead))
+  pub step-same : Match S m (step s) (bookStep k)
   step-same = by-test (s .scan .running) (read-same S m s k h) rest-same

@@ -5,25 +5,25 @@ use mathlib.Core.Bool.{Bool, true, false, cond}
 use mathlib.Core.List.{List, [], _∷_, _++_, map}
 use Rattle.laws.specs.Lists.{tab}
 use Rattle.bank_spec.specs.State.{State}
-use Rattle.bank_spec.specs.Calls.{Answer, accepted, refused, idle, went, After, admit, latch, step, outputsOf}
+use Rattle.bank_spec.specs.Calls.{Answer, accepted, refused, idle, went, After, Handed, admit, latch, step, outputsOf}
 use Rattle.bank_spec.specs.Book.{Place, Book, bookAdmit, bookLatch, bookStep}
 
--- an admission with a block's records and rows, a latch with its words, or a step
+-- an admission of a block that is handed in, a latch with its words, or a step
 pub data Call : Type 0 where
-  admission : List ℕ → List ℕ → Call
+  admission : Handed → Call
   latching : List ℕ → Call
   stepping : Call
 
 -- each call gets bank, scan state and row memory as the last one left them
 unfoldable pub call : State → Call → After State
-call s (admission R bytes) = admit s R bytes
+call s (admission h) = admit s h
 call s (latching ws) = latch s ws
 call s stepping = step s
 
 unfoldable pub bookCall : ℕ → ℕ → Book → Call → After Book
-bookCall S m k (admission R bytes) = bookAdmit S m k R bytes
+bookCall S m k (admission h) = bookAdmit S m k h
 bookCall S m k (latching ws) = bookLatch k ws
-bookCall S m k stepping = bookStep (k .blocks) (k .toRead)
+bookCall S m k stepping = bookStep k
 
 -- what a list of calls leaves
 unfoldable pub stateAfter : State → List Call → State
@@ -69,16 +69,16 @@ readsOf (e ∷ es) = readOf (e .answer) ++ readsOf es
 -- how many of the calls are steps
 unfoldable pub stepsOf : List Call → ℕ
 stepsOf [] = 0
-stepsOf (admission R bytes ∷ cs) = stepsOf cs
+stepsOf (admission h ∷ cs) = stepsOf cs
 stepsOf (latching ws ∷ cs) = stepsOf cs
 stepsOf (stepping ∷ cs) = suc (stepsOf cs)
 
 -- a scan runs from a latch to the next latch or accepted admission: none of the calls, made from the book k on, ends it
 unfoldable pub ends : Call → Answer → Bool
-ends (admission R bytes) accepted = true
-ends (admission R bytes) (refused n) = false
-ends (admission R bytes) idle = false
-ends (admission R bytes) (went b c) = false
+ends (admission h) accepted = true
+ends (admission h) (refused n) = false
+ends (admission h) idle = false
+ends (admission h) (went b c) = false
 ends (latching ws) a = true
 ends stepping a = false
 

@@ -11,21 +11,28 @@ pub const BANK_RECORD_BYTES: usize = MOST_BLOCKS * MOST_RECORD_BYTES;
 
 pub const BANK_OUTPUTS: usize = MOST_BLOCKS * MOST_OUTPUTS;
 
-// A bank: the scan limit S, how many blocks are held, the number of records of each, and their records, 80 bytes a place.
+// Scans are numbered 0 to 7 and round again.
+pub const SCAN_NUMBERS: u8 = 8;
+
+// A bank: the scan limit S, how many blocks are held, and of each place the number of records, the records, 80 bytes, the
+// period and the phase.
 pub struct Bank {
     pub limit: u16,
     pub count: u8,
     pub lengths: [u8; MOST_BLOCKS],
     pub records: [u8; BANK_RECORD_BYTES],
+    pub periods: [u8; MOST_BLOCKS],
+    pub phases: [u8; MOST_BLOCKS],
 }
 
-// A scan state: whether reads are left, the block, cell and rail word of the next read, the latched word of each place, and the
-// outputs, 8 a place: 0 or 1 where set, else 2.
+// A scan state: whether reads are left, the block, cell and rail word of the next read, the number of the scan that runs or ran
+// last, the word of each place from its last due scan, and the outputs, 8 a place: 0 or 1 where set, else 2.
 pub struct Scan {
     pub running: bool,
     pub block: u8,
     pub cell: u8,
     pub rail: u16,
+    pub number: u8,
     pub words: [u16; MOST_BLOCKS],
     pub outputs: [u8; BANK_OUTPUTS],
 }

@@ -1,4 +1,4 @@
--- The case table of document 01, A to L, as one statement; E as document 02, §1, has it, and its examples of §3 and §6, S and W.
+-- The case table of document 01, A to L, as one statement; E as document 02, §1, has it, and examples of §3, §6 and §8: S, W and P.
 -- Assumes nothing.
 use mathlib.Core.Path.{_≡_}
 use mathlib.Core.Bool.{false}
@@ -10,18 +10,19 @@ use Rattle.sheet_spec.specs.Table.{table}
 use Rattle.cutting_spec.specs.Compile.{made}
 use Rattle.cutting_spec.specs.Listing.{listing}
 use Rattle.bank_spec.specs.State.{fresh}
-use Rattle.bank_spec.specs.Calls.{Answer, accepted, refused}
+use Rattle.bank_spec.specs.Calls.{Answer, accepted, refused, everyScan}
 use Rattle.bank_spec.specs.Book.{newBook}
-use Rattle.bank_spec.specs.CallLists.{Call, admission, Entry, trace, bookTrace, stateAfter}
+use Rattle.bank_spec.specs.CallLists.{Call, admission, Entry, trace, bookTrace, stateAfter, bookAfter}
 use Rattle.sheet_spec.specs.Example.{T, fullT, jobT, jobAbove, jobF, clashing, jobS, washing, unstopped}
 use Rattle.cutting_spec.specs.Example.{recordsA, rowBytesA}
 use Rattle.case_table.specs.Lent.{oldBytes, lending}
 use Rattle.case_table.specs.Wide.{jobW, courses}
+use Rattle.case_table.specs.Slow.{admitted, inTurn, threeScans, tracedScans}
 use Rattle.case_table.specs.Results.{resultA, listingA, resultB, resultC, resultF, resultS, answerAndRows, answerW, rowBytesW, refusedWith}
 
 -- A's block admitted twice, on row memory for both
 abbrev pub twice : List Call
-twice = admission recordsA rowBytesA ∷ admission recordsA rowBytesA ∷ []
+twice = admission (everyScan recordsA rowBytesA) ∷ admission (everyScan recordsA rowBytesA) ∷ []
 
 -- an answer with so many blocks held, nothing set
 abbrev pub entry : Answer → ℕ → Entry
@@ -56,12 +57,22 @@ pub record CaseTable : Type 0 where
   pub J-records : lending 15 23 32 (jobT 3 2) T ≡ refusedWith 10 15 23 32
   -- S 3, A's block twice: admitted, then 14, and what is lent and held is then as it was
   pub K : trace (fresh 3 (oldBytes 64)) twice ≡ entry accepted 1 ∷ entry (refused 14) 1 ∷ []
-  pub K-kept : stateAfter (fresh 3 (oldBytes 64)) twice ≡ stateAfter (fresh 3 (oldBytes 64)) (admission recordsA rowBytesA ∷ [])
+  pub K-kept : stateAfter (fresh 3 (oldBytes 64)) twice ≡ stateAfter (fresh 3 (oldBytes 64)) (admission (everyScan recordsA rowBytesA) ∷ [])
   pub K-book : bookTrace 3 64 newBook twice ≡ entry accepted 1 ∷ entry (refused 14) 1 ∷ []
   -- S 4, the same: both
   pub L : trace (fresh 4 (oldBytes 64)) twice ≡ entry accepted 1 ∷ entry accepted 2 ∷ []
   pub L-rows : stateAfter (fresh 4 (oldBytes 64)) twice .rows ≡ rowBytesA ++ rowBytesA
   pub L-book : bookTrace 4 64 newBook twice ≡ entry accepted 1 ∷ entry accepted 2 ∷ []
+  -- S 2, A's block in every second scan, with phases 0 and 1 (document 02, §8): both, for no scan reads four cells; with phase 0 twice: 14
+  pub P : trace (fresh 2 (oldBytes 64)) inTurn ≡ entry accepted 1 ∷ entry accepted 2 ∷ []
+  pub P-book : bookTrace 2 64 newBook inTurn ≡ entry accepted 1 ∷ entry accepted 2 ∷ []
+  pub P-one-phase : trace (fresh 2 (oldBytes 64)) (admitted 2 0 ∷ admitted 2 0 ∷ []) ≡ entry accepted 1 ∷ entry (refused 14) 1 ∷ []
+  -- a period of 3, and a phase that is not below its period: 16, before 13 and 14 are asked
+  pub P-period : trace (fresh 1 (oldBytes 64)) (admitted 3 0 ∷ []) ≡ entry (refused 16) 0 ∷ []
+  pub P-phase : trace (fresh 1 (oldBytes 64)) (admitted 8 8 ∷ []) ≡ entry (refused 16) 0 ∷ []
+  -- three scans: the blocks are read in turn, and each keeps its outputs and its word while the other is read
+  pub P-scans : trace (stateAfter (fresh 2 (oldBytes 64)) inTurn) threeScans ≡ tracedScans
+  pub P-scans-book : bookTrace 2 64 (bookAfter 2 64 newBook inTurn) threeScans ≡ tracedScans
   -- a wash line opens the valve, a stop line closes it while the lid is open; with an ordinary line for the lid: 5
   pub S : lending 5 12 8 jobS washing ≡ resultS
   pub S-ordinary : lending 5 12 8 jobS unstopped ≡ refusedWith 5 5 12 8

@@ -15,24 +15,25 @@ use Rattle.cutting_spec.specs.Example.{recordsA, rowBytesA}
 use Rattle.cutting.specs.Outcome.{outcome}
 use Rattle.bank_spec.specs.Opened.{bankOpened}
 use Rattle.bank_spec.specs.State.{fresh}
+use Rattle.bank_spec.specs.Calls.{everyScan}
 use Rattle.bank_spec.specs.Book.{Block}
 use Rattle.bank_spec.specs.CallLists.{Call, admission, latching, stepping, stateAfter, trace}
 use Rattle.bank_spec.specs.Demand3.{CompiledBy, SetAllowed, outputIn, OnlyUnread, blocks, reads, ScanClaim}
 use Rattle.bank_spec.proofs.Promises.{demand3}
 use Rattle.claims.proofs.WrittenBlocks.{outcome-compiled}
 
--- the compiler over words writes it, and so it is a compiled block, with whatever word, rails and outputs it stands in a book
-module _ (w r : ℕ) (outputs : List ℕ) where
-  abbrev blockA : Block
-  blockA = record { records = recordsA; rows = rowBytesA; word = w; rail = r; outputs = outputs }
+-- the compiler over words writes it, and so it is a compiled block, with whatever period, phase, word, rails and outputs it stands in a book
+module _ (p f w r : ℕ) (outputs : List ℕ) where
+  abbrev pub blockA : Block
+  blockA = record { records = recordsA; rows = rowBytesA; period = p; phase = f; word = w; rail = r; outputs = outputs }
 
-  pub A-compiled : CompiledBy (jobT 3 2) T (record { records = recordsA; rows = rowBytesA; word = w; rail = r; outputs = outputs })
+  pub A-compiled : CompiledBy (jobT 3 2) T blockA
   unfolding sheetOpened reductionOpened cuttingOpened outcome
   A-compiled = outcome-compiled (replicate 45 0) (replicate 24 0) (replicate 32 0) (jobT 3 2) T refl blockA refl refl
 
 -- the bank has it, and x1x2x3x4 = 0110 is latched
 abbrev admitA : List Call
-admitA = admission recordsA rowBytesA ∷ []
+admitA = admission (everyScan recordsA rowBytesA) ∷ []
 
 abbrev memory : List ℕ
 memory = replicate 32 9
@@ -56,7 +57,7 @@ module _ (v : ℕ) (x1 : bit v 0 ≡ 0) (x2 : bit v 1 ≡ 1) (x3 : bit v 2 ≡ 1
   pub A-left : (o : ℕ) → o < 2
       → SetAllowed T v o (outputIn (stateAfter (stateAfter (fresh 4 memory) (admitA ++ (latching (v ∷ []) ∷ stepping ∷ []))) (stepping ∷ [])) 0 o)
   unfolding sheetOpened cuttingOpened bankOpened
-  A-left o l = A-scan .leftInLatch (v ∷ []) only-x4 .allowed 0 (omega arith) (jobT 3 2) T (A-compiled _ _ _) o l
+  A-left o l = A-scan .leftInLatch (v ∷ []) only-x4 .allowed 0 (omega arith) refl (jobT 3 2) T (A-compiled _ _ _ _ _) o l
 
 -- and it is not the same value for all: y2 is x4
 pub A-outputs : (outputIn (stateAfter (fresh 4 memory) (admitA ++ (latching (6 ∷ []) ∷ stepping ∷ stepping ∷ []))) 0 1 ≡ 0)

@@ -7,3 +7,4 @@ pub mod OldPanels
 pub mod PanelDemand3
 pub mod WrittenBlocks
 pub mod CaseA
+pub mod SlowBlocks

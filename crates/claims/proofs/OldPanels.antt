@@ -2,14 +2,14 @@
 -- compiled block that went back is a compiled block again when it is widened (`widened-compiled`), so that demand 3 holds of it.
 -- Assumes nothing.
 use mathlib.Core.Path.{_≡_, _∙_, ap, ap₂}
-use mathlib.Core.Bool.{true, false, _||_}
+use mathlib.Core.Bool.{true, false, not, _||_}
 use mathlib.Core.List.{List}
 use Prim.Native.Nat.{ℕ, _+_, _-_, _≤_, min}
 use native.Mathlib.Nat.{min-le-right}
 use native.Mathlib.Omega.{arith}
 use lib.Dec.{leb, ltb}
 use lib.ListN.{length, getD}
-use Rattle.laws.specs.Tests.{sum}
+use Rattle.laws.specs.Tests.{any, sum}
 use Rattle.laws.proofs.Cases.{cond-both}
 use Rattle.sheet_spec.specs.Job.{Job}
 use Rattle.stored_spec.specs.RowBytes.{oneByte, twoBytes, room}
@@ -18,21 +18,24 @@ use Rattle.stored_spec.specs.Run.{Running, run}
 use Rattle.stored_spec.specs.ReadWrite.{Written}
 use Rattle.row_forms_spec.specs.Moves.{overEight, movedRows, widen, narrow}
 use Rattle.row_forms_spec.proofs.Promises.{gives-0, none-over, recordsLeft, rowsLeft, widened-same, back-same}
-use Rattle.bank_spec.specs.Book.{Block, newBook, blockAt, cellsIn, rowsIn, bookRefusal}
+use Rattle.bank_spec.specs.Due.{timed, dueCells}
+use Rattle.bank_spec.specs.Calls.{Handed, handed}
+use Rattle.bank_spec.specs.Book.{Block, newBook, blockAt, dueCellsOf, cellsIn, rowsIn, bookRefusal}
 use Rattle.bank_spec.specs.CallLists.{bookAfter}
 use Rattle.bank_spec.specs.Demand3.{CompiledBy}
-use Rattle.bank_spec.proofs.Promises.{compiled-bytes, compiled-formed, compiled-outputs, book-runs, scan-outputs}
+use Rattle.bank_spec.proofs.Promises.{compiled-bytes, compiled-formed, compiled-outputs, book-runs, scan-outputs, due-cells}
 use Rattle.claims.specs.OldPanels.{OldForm, AsBefore}
 
 -- a well formed block is not refused with 12
-not-12 : (S m : ℕ) (bs : List Block) (R bytes : List ℕ) → wellFormed R bytes ≡ true → bookRefusal S m bs R bytes ≡ 12 → ⊥
+not-12 : (S m : ℕ) (bs : List Block) (h : Handed) → wellFormed (h .records) (h .rows) ≡ true → bookRefusal S m bs h ≡ 12 → ⊥
 unfolding bookRefusal
-not-12 S m bs R bytes e =
+not-12 S m bs h e =
+    let rows = rowsIn bs + rowCount (h .records) in
     rw e
+    (cond-both (λ (n : ℕ). n ≡ 12 → ⊥) (not (timed (h .period) (h .phase))) (λ z. omega arith)
     (cond-both (λ (n : ℕ). n ≡ 12 → ⊥) (leb 8 (length bs)) (λ z. omega arith)
-    (cond-both (λ (n : ℕ). n ≡ 12 → ⊥) (ltb S (cellsIn bs + cellCount R)) (λ z. omega arith)
-    (cond-both (λ (n : ℕ). n ≡ 12 → ⊥) (ltb m (room twoBytes (rowsIn bs + rowCount R)) || ltb 32768 (rowsIn bs + rowCount R)) (λ z. omega arith)
-    (λ z. omega arith))))
+    (cond-both (λ (n : ℕ). n ≡ 12 → ⊥) (any 8 (λ n. ltb S (cellsIn n bs + dueCells (h .period) (h .phase) n (h .records)))) (λ z. omega arith)
+    (cond-both (λ (n : ℕ). n ≡ 12 → ⊥) (ltb m (room twoBytes rows) || ltb 32768 rows) (λ z. omega arith) (λ z. omega arith)))))
 
 -- R and bytes are widened into the memories records and rows, and W has what then stands at their front
 module _ (R bytes records rows : List ℕ) (moved : widen R bytes records rows .answer ≡ 0) (W : Block)
@@ -42,14 +45,15 @@ module _ (R bytes records rows : List ℕ) (moved : widen R bytes records rows .
   widened-before =
       let up = widened-same R bytes records rows moved in
       record {
-        admitted = λ S m bs. not-12 S m bs (W .records) (W .rows) (ap₂ wellFormed has-records has-rows ∙ up .formed);
-        scanned = λ S m k ws s b l h p q.
+        admitted = λ S m bs period phase.
+            not-12 S m bs (handed (W .records) (W .rows) period phase) (ap₂ wellFormed has-records has-rows ∙ up .formed);
+        scanned = λ S m k ws s b l h d p q.
             let B = blockAt (k .blocks) b in
-            let n = sum b (λ i. cellCount (blockAt (k .blocks) i .records)) in
+            let n = sum b (λ i. dueCellsOf (k .next) (blockAt (k .blocks) i)) in
             let same : B .records ≡ recordsLeft R (widen R bytes records rows) = p ∙ has-records in
-            let count : cellCount (B .records) ≡ cellCount R = ap cellCount (same ∙ up .records) in
-            scan-outputs S m k ws s b l h
-            ∙ ap₂ (λ (x y : List ℕ). run x y (getD ws b 0) (min (s - n) (cellCount (B .records))) .outputs) same (q ∙ has-rows)
+            let count : dueCellsOf (k .next) B ≡ cellCount R = due-cells (k .next) B d ∙ ap cellCount (same ∙ up .records) in
+            scan-outputs S m k ws s b l h d
+            ∙ ap₂ (λ (x y : List ℕ). run x y (getD ws b 0) (min (s - n) (dueCellsOf (k .next) B)) .outputs) same (q ∙ has-rows)
             ∙ ap (λ (c : ℕ). run (recordsLeft R (widen R bytes records rows)) (rowsLeft twoBytes R (widen R bytes records rows)) (getD ws b 0) (min (s - n) c) .outputs) count
             ∙ ap (λ (x : Running). x .outputs) (up .runs (getD ws b 0) (min (s - n) (cellCount R)) (min-le-right (s - n) (cellCount R)));
         outputs = λ S m calls b h p q.

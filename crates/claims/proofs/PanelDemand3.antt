@@ -16,7 +16,7 @@ use Rattle.stored_spec.specs.RowBytes.{twoBytes, room}
 use Rattle.bank_spec.specs.declared.Bank.{Bank}
 use Rattle.bank_spec.specs.declared.Scan.{Scan}
 use Rattle.bank_spec.specs.State.{State, formed, rowsHeld, emptyBank, atRest, fresh, limitRefused, stateOf}
-use Rattle.bank_spec.specs.Calls.{Answer, After, numbered, admitRefusal, admitted, admit, latched, latch, step}
+use Rattle.bank_spec.specs.Calls.{Answer, After, numbered, Handed, admitRefusal, admitted, admit, latched, latch, step}
 use Rattle.bank_spec.specs.CallLists.{Call, admission, latching, stepping, call, stateAfter, outputsHeld, trace}
 use Rattle.bank_spec.specs.Demand3.{reworded}
 use Rattle.bank_spec.proofs.Promises.{Sized, call-sized, demand3}
@@ -27,8 +27,8 @@ use Rattle.claims.proofs.StateBytes.{bank-again, scan-again, words-repl
 
 -- bytes of a bank and of a scan state, all of them
 pub record Whole (b : Lent) : Type 0 where
-  pub bank : length (b .bank) ≡ 651
-  pub scan : length (b .scan) ≡ 85
+  pub bank : length (b .bank) ≡ 667
+  pub scan : length (b .scan) ≡ 86
 
 sized-held : (b : Lent) → Sized (held b)
 unfolding bankIn scanIn
@@ -36,6 +36,8 @@ sized-held b =
     record {
       lengths = length-tab (λ i. getD (b .bank) (3 + i) 0) 8;
       records = length-tab (λ i. getD (b .bank) (11 + i) 0) 640;
+      periods = length-tab (λ i. getD (b .bank) (651 + i) 0) 8;
+      phases = length-tab (λ i. getD (b .bank) (659 + i) 0) 8;
       words = length-tab (λ i. pairAt (b .scan) (5 + 2 * i)) 8;
       outputs = length-tab (λ i. getD (b .scan) (21 + i) 0) 64;
     }
@@ -44,43 +46,44 @@ sized-held b =
 bank-long : (r : After State) (old : List ℕ) → length (bankLent r old) ≡ length old
 unfolding bankLent
 bank-long r old =
-    cond-both (λ (l : List ℕ). length l ≡ length old) (changes (r .answer)) (length-puts (λ i. getD (bankBytes (r .state .bank)) i 0) 651 old) refl
+    cond-both (λ (l : List ℕ). length l ≡ length old) (changes (r .answer)) (length-puts (λ i. getD (bankBytes (r .state .bank)) i 0) 667 old) refl
 
 scan-long : (r : After State) (old : List ℕ) → length (scanLent r old) ≡ length old
 unfolding scanLent
 scan-long r old =
-    cond-both (λ (l : List ℕ). length l ≡ length old) (changes (r .answer)) (length-puts (λ i. getD (scanBytes (r .state .scan)) i 0) 85 old) refl
+    cond-both (λ (l : List ℕ). length l ≡ length old) (changes (r .answer)) (length-puts (λ i. getD (scanBytes (r .state .scan)) i 0) 86 old) refl
 
 module _ (b : Lent) (w : Whole b) where
   whole-after : (c : Call) → Whole (exported b c .after)
   unfolding exported admitBytes latchBytes stepBytes
-  whole-after (admission R bytes) =
-      let r = admit (held b) R bytes in
+  whole-after (admission h) =
+      let r = admit (held b) h in
       record { bank = bank-long r (b .bank) ∙ w .bank; scan = scan-long r (b .scan) ∙ w .scan }
   whole-after (latching ws) = record { bank = w .bank; scan = scan-long (latch (stateOf (bankIn (b .bank)) (scanIn (b .scan)) []) ws) (b .scan) ∙ w .scan }
   whole-after stepping = record { bank = w .bank; scan = scan-long (step (held b)) (b .scan) ∙ w .scan }
 
   -- the bank and the scan state of a result, stored over the bytes
-  bank-stored : (k : Bank) → length (k .lengths) ≡ 8 → length (k .records) ≡ 640 → bankIn (puts 651 (λ i. getD (bankBytes k) i 0) (b .bank)) ≡ k
-  bank-stored k p q = bank-again k (b .bank) (w .bank) p q
+  bank-stored : (k : Bank) → length (k .lengths) ≡ 8 → length (k .records) ≡ 640 → length (k .periods) ≡ 8 → length (k .phases) ≡ 8
+      → bankIn (puts 667 (λ i. getD (bankBytes k) i 0) (b .bank)) ≡ k
+  bank-stored k p q u v = bank-again k (b .bank) (w .bank) p q u v
 
-  scan-stored : (s : Scan) → length (s .words) ≡ 8 → length (s .outputs) ≡ 64 → scanIn (puts 85 (λ i. getD (scanBytes s) i 0) (b .scan)) ≡ s
+  scan-stored : (s : Scan) → length (s .words) ≡ 8 → length (s .outputs) ≡ 64 → scanIn (puts 86 (λ i. getD (scanBytes s) i 0) (b .scan)) ≡ s
   scan-stored s p q = scan-again s (b .scan) (w .scan) p q
 
   -- admission
   abbrev Admits : After State → Type 0
   Admits r = Sized (r .state) → held (lent (bankLent r (b .bank)) (scanLent r (b .scan)) (r .state .rows)) ≡ r .state
 
-  admit-holds : (R bytes : List ℕ) → Admits (admit (held b) R bytes)
+  admit-holds : (h : Handed) → Admits (admit (held b) h)
   unfolding admit numbered bankLent scanLent changes
-  admit-holds R bytes =
-      by-test (eqb (admitRefusal (held b) R bytes) 0)
+  admit-holds h =
+      by-test (eqb (admitRefusal (held b) h) 0)
       (λ e.
       rw e
       (λ z.
-      ap₂ (λ (k : Bank) (s : Scan). stateOf k s (admitted (held b) R bytes .rows))
-      (bank-stored (admitted (held b) R bytes .bank) (z .lengths) (z .records))
-      (scan-stored (admitted (held b) R bytes .scan) (z .words) (z .outputs))))
+      ap₂ (λ (k : Bank) (s : Scan). stateOf k s (admitted (held b) h .rows))
+      (bank-stored (admitted (held b) h .bank) (z .lengths) (z .records) (z .periods) (z .phases))
+      (scan-stored (admitted (held b) h .scan) (z .words) (z .outputs))))
       (λ e. rw e (λ z. refl))
 
   -- a latch keeps the bank and the rows, and does not look at the rows
@@ -92,7 +95,7 @@ module _ (b : Lent) (w : Whole b) where
       (λ e.
       rw e
       (λ z.
-      ap (λ (s : Scan). stateOf (bankIn (b .bank)) s (b .rows)) (scan-stored (latched (bankIn (b .bank)) ws) (z .words) (z .outputs))))
+      ap (λ (s : Scan). stateOf (bankIn (b .bank)) s (b .rows)) (scan-stored (latched (bankIn (b .bank)) (scanIn (b .scan)) ws) (z .words) (z .outputs))))
       (λ e. rw e (λ z. refl))
 
   latch-said : (ws : List ℕ) → latch (stateOf (bankIn (b .bank)) (scanIn (b .scan)) []) ws .answer ≡ latch (held b) ws .answer
@@ -114,14 +117,14 @@ module _ (b : Lent) (w : Whole b) where
   -- the bytes that a call leaves hold the state that the definition leaves, for any bytes
   pub exported-holds : (c : Call) → held (exported b c .after) ≡ call (held b) c .state
   unfolding exported admitBytes latchBytes stepBytes call
-  exported-holds (admission R bytes) = admit-holds R bytes (call-sized (held b) (sized-held b) (admission R bytes))
+  exported-holds (admission h) = admit-holds h (call-sized (held b) (sized-held b) (admission h))
   exported-holds (latching ws) = latch-holds ws (call-sized (held b) (sized-held b) (latching ws))
   exported-holds stepping = step-holds (call-sized (held b) (sized-held b) stepping)
 
   -- and the numbers that it answers are those of the definition's answer
   pub exported-said : (c : Call) → exported b c .said ≡ saidOf c (call (held b) c .answer)
   unfolding exported admitBytes latchBytes stepBytes call saidOf
-  exported-said (admission R bytes) = refl
+  exported-said (admission h) = refl
   exported-said (latching ws) = ap (λ (a : Answer). number (numberOf a)) (latch-said ws)
   exported-said stepping = refl
 
@@ -155,7 +158,7 @@ module _ (b : Lent) (w : Whole b) (vs : List ℕ) (eight : length vs ≡ 8) wher
   replaced-holds = ap (λ (s : Scan). stateOf (bankIn (b .bank)) s (b .rows)) (words-replaced vs (b .scan) (w .scan) eight)
 
 -- a bank just made, in any bytes
-module _ (S : ℕ) (range : within 1 255 S ≡ true) (bank scan rows : List ℕ) (bank-size : length bank ≡ 651) (scan-size : length scan ≡ 85) where
+module _ (S : ℕ) (range : within 1 255 S ≡ true) (bank scan rows : List ℕ) (bank-size : length bank ≡ 667) (scan-size : length scan ≡ 86) where
   in-range : limitRefused S ≡ false
   unfolding limitRefused
   in-range = ap not range
@@ -172,7 +175,7 @@ module _ (S : ℕ) (range : within 1 255 S ≡ true) (bank scan rows : List ℕ)
   unfolding exportedNew newBytes made bankLent scanLent changes
   begun-holds =
       rw in-range
-      (ap₂ (λ (k : Bank) (s : Scan). stateOf k s rows) (bank-again (emptyBank S) bank bank-size refl refl) (scan-again atRest scan scan-size refl refl))
+      (ap₂ (λ (k : Bank) (s : Scan). stateOf k s rows) (bank-again (emptyBank S) bank bank-size refl refl refl refl) (scan-again atRest scan scan-size refl refl))
 
   pub panel-demand3 : (calls : List Call) → PanelDemand3 S bank scan rows calls
   panel-demand3 calls =

@@ -1,5 +1,6 @@
 -- Lists of the calls that C makes, on the bytes that it lends: what each answers, and the bytes after it, as the contracts of `cascade_bank_new`,
--- `cascade_admit`, `cascade_latch` and `cascade_step` (panel/src/lib.rt) equate them.
+-- `cascade_admit_every`, `cascade_latch` and `cascade_step` (panel/src/lib.rt) equate them. `cascade_admit` is an admission with period 1 and
+-- phase 0.
 -- Assumes nothing.
 use Prim.Native.Nat.{ℕ}
 use mathlib.Core.List.{List, [], _∷_}
@@ -34,8 +35,8 @@ pub record Exported : Type 0 where
   pub after : Lent
 
 unfoldable pub exported : Lent → Call → Exported
-exported b (admission R bytes) =
-    let r = admitBytes (b .bank) (b .scan) (b .rows) R bytes in
+exported b (admission h) =
+    let r = admitBytes (b .bank) (b .scan) (b .rows) h in
     record { said = number (r .answer); after = lent (r .bank) (r .scan) (r .rows) }
 exported b (latching ws) =
     let r = latchBytes (b .bank) (b .scan) ws in
@@ -68,7 +69,7 @@ exportedTrace b (c ∷ cs) =
 
 -- the numbers that C gets for an answer to a call; for the answers to a list of calls
 unfoldable pub saidOf : Call → Answer → Said
-saidOf (admission R bytes) a = number (numberOf a)
+saidOf (admission h) a = number (numberOf a)
 saidOf (latching ws) a = number (numberOf a)
 saidOf stepping a = numbers (stepNumbers a)
 

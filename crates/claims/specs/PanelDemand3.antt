@@ -10,7 +10,7 @@ use Rattle.bank_spec.specs.CallLists.{Call, stateAfter, bookTrace}
 use Rattle.bank_spec.specs.Demand3.{Demand3, reworded}
 use Rattle.claims.specs.ExportedCalls.{Lent, lent, held, number, exportedNew, lentAfter, exportedTrace, inNumbers, withWords}
 
--- a bank made with S in any 651 and 85 bytes, lent the row memory rows, and the list of calls
+-- a bank made with S in any 667 and 86 bytes, lent the row memory rows, and the list of calls
 module _ (S : ℕ) (bank scan rows : List ℕ) where
   abbrev pub begun : Lent
   begun = exportedNew S (lent bank scan rows) .after

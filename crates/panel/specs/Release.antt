@@ -7,8 +7,8 @@ abbrev pub release : ℕ → ℕ → ℕ → ℕ
 release major minor patch = 65536 * major + 256 * minor + patch
 
 abbrev pub version : ℕ
-version = release 1 0 0
+version = release 2 0 0
 
--- changes when nodes, records, rows, table, bank or scan state are laid out otherwise; 1 had one byte a row
+-- changes when nodes, records, rows, table, bank or scan state are laid out otherwise; 1 had one byte a row, 2 no period, phase and scan number
 abbrev pub layout : ℕ
-layout = 2
+layout = 3

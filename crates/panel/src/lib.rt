@@ -14,6 +14,7 @@ ghost use Rattle.evaluation_spec.specs.Known.{evaluate};
 ghost use Rattle.row_forms_spec.specs.Moves.{widen, narrow};
 ghost use Rattle.stored_spec.specs.ReadWrite.{writtenAs};
 ghost use Rattle.panel.specs.Release.{version, layout};
+ghost use Rattle.bank_spec.specs.Calls.{handed, everyScan};
 ghost use Rattle.panel_calls.specs.StateBytes.{called, newBytes, admitBytes, latchBytes, stepBytes};
 use bank_spec::MOST_BLOCKS;
 use panel_calls::BankBytes;
@@ -27,11 +28,12 @@ use reduction_spec::Widths;
 use sheet_spec::MOST_OUTPUTS;
 use sheet_spec::Table;
 
-// The release whose archive this is, 65536 * major + 256 * minor + patch: 1.0.0.
-pub const VERSION: u32 = 65536;
+// The release whose archive this is, 65536 * major + 256 * minor + patch: 2.0.0.
+pub const VERSION: u32 = 131072;
 
-// The layout of what C lends and keeps: nodes, records, rows, table, bank and scan state. Layout 1 had one byte a row.
-pub const LAYOUT: u32 = 2;
+// The layout of what C lends and keeps: nodes, records, rows, table, bank and scan state. Layout 1 had one byte a row, layout 2 a bank without periods
+// and phases and a scan state without a number.
+pub const LAYOUT: u32 = 3;
 
 // What the header of the same release has, for a firmware to compare when it starts.
 #[no_mangle]
@@ -225,9 +227,26 @@ pub extern "C" fn cascade_admit(
 ) -> u8
     ensures { λ r.
         ⌜ called r (now (bank .exit)) (now (scan .exit)) (now (rows .exit))
-        ≡ admitBytes (now (bank .entry)) (now (scan .entry)) (now (rows .entry)) (now (records .entry)) (now (bytes .entry)) ⌝ }
+        ≡ admitBytes (now (bank .entry)) (now (scan .entry)) (now (rows .entry)) (everyScan (now (records .entry)) (now (bytes .entry))) ⌝ }
 {
     panel_calls::admit(bank, scan, records, bytes, rows)
+}
+
+#[no_mangle]
+pub extern "C" fn cascade_admit_every(
+    bank: &mut BankBytes,
+    scan: &mut ScanBytes,
+    records: &[u8],
+    bytes: &[u8],
+    period: usize,
+    phase: usize,
+    rows: &mut [u8],
+) -> u8
+    ensures { λ r.
+        ⌜ called r (now (bank .exit)) (now (scan .exit)) (now (rows .exit))
+        ≡ admitBytes (now (bank .entry)) (now (scan .entry)) (now (rows .entry)) (handed (now (records .entry)) (now (bytes .entry)) period phase) ⌝ }
+{
+    panel_calls::admit_every(bank, scan, records, bytes, period, phase, rows)
 }
 
 // Latches eight words and starts a scan: 0, or 12 and nothing changes.

@@ -20,10 +20,10 @@ use Rattle.bank.specs.Given.{givenNumber, givenAnswer, started}
 use Rattle.panel_calls.specs.StateBytes.{called, bankIn, scanIn, stateIn, bankBytes, scanBytes, changes, numberOf, stepNumbers, bankLent, scanLent, made}
 
 abbrev putBank : Bank → List ℕ → List ℕ
-putBank k old = puts 651 (λ i. getD (bankBytes k) i 0) old
+putBank k old = puts 667 (λ i. getD (bankBytes k) i 0) old
 
 abbrev putScan : Scan → List ℕ → List ℕ
-putScan s old = puts 85 (λ i. getD (scanBytes s) i 0) old
+putScan s old = puts 86 (λ i. getD (scanBytes s) i 0) old
 
 -- what is called, by its parts
 pub same-call : {A : Type 0} {a a′ : A} {k k′ s s′ r r′ : List ℕ} → a ≡ a′ → k ≡ k′ → s ≡ s′ → r ≡ r′ → called a k s r ≡ called a′ k′ s′ r′

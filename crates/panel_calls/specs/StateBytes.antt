@@ -1,6 +1,8 @@
 -- The bank and the scan state as C lends them: bytes.
---   bank, 651 bytes: S (two bytes, the low byte first), how many blocks are held, the number of records of each of 8 places, their records, 80 a place
---   scan state, 85 bytes: not 0 while reads are left, block, cell, rail word (two bytes), eight words (two bytes each), 64 outputs, 8 a place
+--   bank, 667 bytes: S (two bytes, the low byte first), how many blocks are held, and of each of 8 places the number of records, the records, 80 bytes,
+--     the period and the phase
+--   scan state, 86 bytes: not 0 while reads are left, block, cell, rail word (two bytes), eight words (two bytes each), 64 outputs, 8 a place, the number
+--     of the scan
 -- Assumes nothing.
 use Prim.Native.Nat.{ℕ, _+_, _*_, _/_, _%_}
 use mathlib.Core.Bool.{Bool, true, false, cond, not}
@@ -12,7 +14,7 @@ use Rattle.laws.specs.Lists.{tab, puts}
 use Rattle.bank_spec.specs.declared.Bank.{Bank}
 use Rattle.bank_spec.specs.declared.Scan.{Scan}
 use Rattle.bank_spec.specs.State.{State, emptyBank, atRest, limitRefused, stateOf}
-use Rattle.bank_spec.specs.Calls.{Answer, accepted, refused, idle, went, After, admit, latch, step}
+use Rattle.bank_spec.specs.Calls.{Answer, accepted, refused, idle, went, After, Handed, admit, latch, step}
 pub use Rattle.panel_calls.specs.declared.StepNumbers.{StepNumbers}
 
 -- the number in the two bytes at place i
@@ -26,6 +28,8 @@ bankIn l =
       count = getD l 2 0;
       lengths = tab 8 (λ i. getD l (3 + i) 0);
       records = tab 640 (λ i. getD l (11 + i) 0);
+      periods = tab 8 (λ i. getD l (651 + i) 0);
+      phases = tab 8 (λ i. getD l (659 + i) 0);
     }
 
 unfoldable pub scanIn : List ℕ → Scan
@@ -35,12 +39,16 @@ scanIn l =
       block = getD l 1 0;
       cell = getD l 2 0;
       rail = pairAt l 3;
+      number = getD l 85 0;
       words = tab 8 (λ i. pairAt l (5 + 2 * i));
       outputs = tab 64 (λ i. getD l (21 + i) 0);
     }
 
 unfoldable pub bankBytes : Bank → List ℕ
-bankBytes k = k .limit % 256 ∷ k .limit / 256 ∷ k .count ∷ (tab 8 (λ i. getD (k .lengths) i 0) ++ tab 640 (λ i. getD (k .records) i 0))
+bankBytes k =
+    k .limit % 256 ∷ k .limit / 256 ∷ k .count
+    ∷ (tab 8 (λ i. getD (k .lengths) i 0) ++ tab 640 (λ i. getD (k .records) i 0)
+    ++ tab 8 (λ i. getD (k .periods) i 0) ++ tab 8 (λ i. getD (k .phases) i 0))
 
 -- byte i of the eight words
 unfoldable pub wordByte : List ℕ → ℕ → ℕ
@@ -49,7 +57,7 @@ wordByte ws i = let w = getD ws (i / 2) 0 in cond (eqb (i % 2) 0) (w % 256) (w /
 unfoldable pub scanBytes : Scan → List ℕ
 scanBytes s =
     flag (s .running) ∷ s .block ∷ s .cell ∷ s .rail % 256 ∷ s .rail / 256
-    ∷ (tab 16 (wordByte (s .words)) ++ tab 64 (λ i. getD (s .outputs) i 0))
+    ∷ (tab 16 (wordByte (s .words)) ++ tab 64 (λ i. getD (s .outputs) i 0) ++ (s .number ∷ []))
 
 -- what a call changes is stored over the bytes lent
 unfoldable pub changes : Answer → Bool
@@ -59,10 +67,10 @@ changes idle = false
 changes (went b c) = true
 
 unfoldable pub bankLent : After State → List ℕ → List ℕ
-bankLent r old = cond (changes (r .answer)) (puts 651 (λ i. getD (bankBytes (r .state .bank)) i 0) old) old
+bankLent r old = cond (changes (r .answer)) (puts 667 (λ i. getD (bankBytes (r .state .bank)) i 0) old) old
 
 unfoldable pub scanLent : After State → List ℕ → List ℕ
-scanLent r old = cond (changes (r .answer)) (puts 85 (λ i. getD (scanBytes (r .state .scan)) i 0) old) old
+scanLent r old = cond (changes (r .answer)) (puts 86 (λ i. getD (scanBytes (r .state .scan)) i 0) old) old
 
 -- the state that bytes and the row memory are
 abbrev pub stateIn : List ℕ → List ℕ → List ℕ → State
@@ -101,9 +109,9 @@ called a bank scan rows = record { answer = a; bank = bank; scan = scan; rows = 
 unfoldable pub newBytes : ℕ → List ℕ → List ℕ → CallBytes ℕ
 newBytes S bank scan = let r = made S in called (numberOf (r .answer)) (bankLent r bank) (scanLent r scan) []
 
-unfoldable pub admitBytes : List ℕ → List ℕ → List ℕ → List ℕ → List ℕ → CallBytes ℕ
-admitBytes bank scan rows records bytes =
-    let r = admit (stateIn bank scan rows) records bytes in
+unfoldable pub admitBytes : List ℕ → List ℕ → List ℕ → Handed → CallBytes ℕ
+admitBytes bank scan rows block =
+    let r = admit (stateIn bank scan rows) block in
     called (numberOf (r .answer)) (bankLent r bank) (scanLent r scan) (r .state .rows)
 
 -- a latch and a step leave the bank, and a step the rows, as they were

@@ -8,6 +8,7 @@ ghost use Rattle.sheet_spec.specs.Job.{job};
 ghost use Rattle.laws.specs.Lists.{puts};
 ghost use Rattle.panel_calls.specs.Exported.{widthsLent, compiledOf, compileBytes, knownOf, knownBytes};
 ghost use Rattle.evaluation_spec.specs.Known.{evaluate};
+ghost use Rattle.bank_spec.specs.Calls.{handed, everyScan};
 ghost use Rattle.panel_calls.specs.StateBytes.{called, newBytes, admitBytes, latchBytes, stepBytes};
 use crate::state_bytes::bank_in;
 use crate::state_bytes::put_bank;
@@ -23,9 +24,9 @@ use sheet_spec::MOST_OUTPUTS;
 use sheet_spec::MOST_VARIABLES;
 
 // A bank and a scan state as bytes (specs/StateBytes.antt says what stands where).
-pub const BANK_BYTES: usize = 3 + MOST_BLOCKS + BANK_RECORD_BYTES;
+pub const BANK_BYTES: usize = 3 + MOST_BLOCKS + BANK_RECORD_BYTES + MOST_BLOCKS + MOST_BLOCKS;
 
-pub const SCAN_BYTES: usize = 5 + 2 * MOST_BLOCKS + BANK_OUTPUTS;
+pub const SCAN_BYTES: usize = 5 + 2 * MOST_BLOCKS + BANK_OUTPUTS + 1;
 
 pub type BankBytes = [u8; BANK_BYTES];
 
@@ -137,7 +138,40 @@ pub fn new_bank(limit: usize, bank: &mut BankBytes, scan: &mut ScanBytes) -> u8
     started.refusal
 }
 
-// Admits a block, its records and its rows, and appends the rows to the row memory: 0, or 12, 13, 14 or 11 and nothing changes.
+// Admits a block, its records and its rows, with a period and a phase, and appends the rows to the row memory: 0, or 12, 16, 13, 14 or 11 and nothing
+// changes.
+pub fn admit_every(
+    bank: &mut BankBytes,
+    scan: &mut ScanBytes,
+    records: &[u8],
+    bytes: &[u8],
+    period: usize,
+    phase: usize,
+    rows: &mut [u8],
+) -> u8
+    ensures { λ r.
+        ⌜ called r (now (bank .exit)) (now (scan .exit)) (now (rows .exit))
+        ≡ admitBytes (now (bank .entry)) (now (scan .entry)) (now (rows .entry)) (handed (now (records .entry)) (now (bytes .entry)) period phase) ⌝ }
+{
+    let done = bank::admit_every(
+        bank_in(bank),
+        scan_in(scan),
+        records,
+        bytes,
+        period,
+        phase,
+        rows,
+    );
+    if done.refusal == 0 {
+        let bank_after = done.bank;
+        let scan_after = done.scan;
+        put_bank(bank_after, bank);
+        put_scan(scan_after, scan);
+    }
+    done.refusal
+}
+
+// Admits a block that is due in every scan.
 pub fn admit(
     bank: &mut BankBytes,
     scan: &mut ScanBytes,
@@ -147,16 +181,9 @@ pub fn admit(
 ) -> u8
     ensures { λ r.
         ⌜ called r (now (bank .exit)) (now (scan .exit)) (now (rows .exit))
-        ≡ admitBytes (now (bank .entry)) (now (scan .entry)) (now (rows .entry)) (now (records .entry)) (now (bytes .entry)) ⌝ }
+        ≡ admitBytes (now (bank .entry)) (now (scan .entry)) (now (rows .entry)) (everyScan (now (records .entry)) (now (bytes .entry))) ⌝ }
 {
-    let done = bank::admit(bank_in(bank), scan_in(scan), records, bytes, rows);
-    if done.refusal == 0 {
-        let bank_after = done.bank;
-        let scan_after = done.scan;
-        put_bank(bank_after, bank);
-        put_scan(scan_after, scan);
-    }
-    done.refusal
+    admit_every(bank, scan, records, bytes, 1, 0, rows)
 }
 
 // Latches eight words and starts a scan: 0, or 12 and nothing changes.

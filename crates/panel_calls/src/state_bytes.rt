@@ -1,6 +1,6 @@
 // The bank and the scan state as bytes that C lends.
 ghost use mathlib.Core.Path.{_≡_};
-ghost use Prim.Native.Nat.{_<_, _+_, _*_};
+ghost use Prim.Native.Nat.{_<_, _≤_, _+_, _*_};
 ghost use lib.ListN.{getD};
 ghost use Rattle.laws.specs.Bits.{flag};
 ghost use Rattle.laws.specs.Lists.{tab, puts, putsAt};
@@ -16,6 +16,13 @@ use bank_spec::Scan;
 // The bytes of the words.
 const WORD_BYTES: usize = 2 * MOST_BLOCKS;
 
+// Where periods, phases and the scan's number stand.
+const PERIODS_AT: usize = 3 + MOST_BLOCKS + BANK_RECORD_BYTES;
+
+const PHASES_AT: usize = PERIODS_AT + MOST_BLOCKS;
+
+const NUMBER_AT: usize = 5 + WORD_BYTES + BANK_OUTPUTS;
+
 // The number in two bytes.
 fn joined(low: u8, high: u8) -> u16
     ensures { λ r. ⌜ r ≡ low + 256 * high ⌝ }
@@ -23,16 +30,18 @@ fn joined(low: u8, high: u8) -> u16
     (low as u16) + 256 * (high as u16)
 }
 
-fn lengths_in(bytes: &BankBytes) -> [u8; MOST_BLOCKS]
-    ensures { λ r. ⌜ r ≡ tab 8 (λ i. getD (now (bytes .entry)) (3 + i) 0) ⌝ }
+// A byte of each place, from at on.
+fn eight_in(bytes: &BankBytes, at: usize) -> [u8; MOST_BLOCKS]
+    requires { ⌜ at + 8 ≤ 667 ⌝ }
+    ensures { λ r. ⌜ r ≡ tab 8 (λ i. getD (now (bytes .entry)) (at + i) 0) ⌝ }
 {
-    let mut lengths = [0u8; MOST_BLOCKS];
+    let mut eight = [0u8; MOST_BLOCKS];
     let mut i = 0;
     while i < MOST_BLOCKS {
-        lengths[i] = bytes[3 + i];
+        eight[i] = bytes[at + i];
         i += 1;
     }
-    lengths
+    eight
 }
 
 fn records_in(bytes: &BankBytes) -> [u8; BANK_RECORD_BYTES]
@@ -53,8 +62,10 @@ pub fn bank_in(bytes: &BankBytes) -> Bank
     Bank {
         limit: joined(bytes[0], bytes[1]),
         count: bytes[2],
-        lengths: lengths_in(bytes),
+        lengths: eight_in(bytes, 3),
         records: records_in(bytes),
+        periods: eight_in(bytes, PERIODS_AT),
+        phases: eight_in(bytes, PHASES_AT),
     }
 }
 
@@ -90,17 +101,19 @@ pub fn scan_in(bytes: &ScanBytes) -> Scan
         block: bytes[1],
         cell: bytes[2],
         rail: joined(bytes[3], bytes[4]),
+        number: bytes[NUMBER_AT],
         words: words_in(bytes),
         outputs: outputs_in(bytes),
     }
 }
 
-fn put_lengths(lengths: &[u8; MOST_BLOCKS], bytes: &mut BankBytes)
-    ensures { λ _. ⌜ now (bytes .exit) ≡ putsAt 3 8 (λ i. getD (now (lengths .entry)) i 0) (now (bytes .entry)) ⌝ }
+fn put_eight(eight: &[u8; MOST_BLOCKS], at: usize, bytes: &mut BankBytes)
+    requires { ⌜ at + 8 ≤ 667 ⌝ }
+    ensures { λ _. ⌜ now (bytes .exit) ≡ putsAt at 8 (λ i. getD (now (eight .entry)) i 0) (now (bytes .entry)) ⌝ }
 {
     let mut i = 0;
     while i < MOST_BLOCKS {
-        bytes[3 + i] = lengths[i];
+        bytes[at + i] = eight[i];
         i += 1;
     }
 }
@@ -116,15 +129,19 @@ fn put_records(records: &[u8; BANK_RECORD_BYTES], bytes: &mut BankBytes)
 }
 
 pub fn put_bank(bank: Bank, bytes: &mut BankBytes)
-    ensures { λ _. ⌜ now (bytes .exit) ≡ puts 651 (λ i. getD (bankBytes bank) i 0) (now (bytes .entry)) ⌝ }
+    ensures { λ _. ⌜ now (bytes .exit) ≡ puts 667 (λ i. getD (bankBytes bank) i 0) (now (bytes .entry)) ⌝ }
 {
     let lengths = bank.lengths;
     let records = bank.records;
+    let periods = bank.periods;
+    let phases = bank.phases;
     bytes[0] = (bank.limit % 256) as u8;
     bytes[1] = (bank.limit / 256) as u8;
     bytes[2] = bank.count;
-    put_lengths(&lengths, bytes);
+    put_eight(&lengths, 3, bytes);
     put_records(&records, bytes);
+    put_eight(&periods, PERIODS_AT, bytes);
+    put_eight(&phases, PHASES_AT, bytes);
 }
 
 // Byte i of the eight words.
@@ -169,7 +186,7 @@ fn bit_of(b: bool) -> u8
 }
 
 pub fn put_scan(scan: Scan, bytes: &mut ScanBytes)
-    ensures { λ _. ⌜ now (bytes .exit) ≡ puts 85 (λ i. getD (scanBytes scan) i 0) (now (bytes .entry)) ⌝ }
+    ensures { λ _. ⌜ now (bytes .exit) ≡ puts 86 (λ i. getD (scanBytes scan) i 0) (now (bytes .entry)) ⌝ }
 {
     let words = scan.words;
     let outputs = scan.outputs;
@@ -180,4 +197,5 @@ pub fn put_scan(scan: Scan, bytes: &mut ScanBytes)
     bytes[4] = (scan.rail / 256) as u8;
     put_words(words, bytes);
     put_outputs(&outputs, bytes);
+    bytes[NUMBER_AT] = scan.number;
 }

@@ -49,7 +49,7 @@ range-accepted S e = ap not e
 -- with no bank made every call gives 12 and changes nothing
 no-bank : (rows : List ℕ) (c : Call) → call (fresh 0 rows) c ≡ record { answer = refused 12; state = fresh 0 rows }
 unfolding call admit admitRefusal numbered latch step formed bankFormed
-no-bank rows (admission R bytes) = refl
+no-bank rows (admission h) = refl
 no-bank rows (latching ws) = refl
 no-bank rows stepping = refl
 

@@ -1,11 +1,12 @@
 -- Demand 3 on the code that runs a whole list: `list-demand3`. What `replay` writes for a bank made with S and a list of calls is the trace of the
 -- bank and of the book, the rows it leaves are the bank's, and every clause of demand 3 holds of the list.
 -- It speaks of the lists that can be written in bytes (`allFit`). What is left out is an admission of 65,536 or more bytes of records or of
--- 16,777,216 or more bytes of rows: every bank refuses it with 12 and nothing changes (`uncoded-refused`), so no list is lost by it. Else `allFit`
--- asks that bytes are bytes, words are words of 16 bits, and that a latch has eight of them, which no caller of the code can break.
+-- 16,777,216 or more bytes of rows, which every bank refuses with 12, and one with a period or a phase of 256 or more, which it refuses with 12 or
+-- 16; nothing changes then (`uncoded-refused`, `untimed-refused`), so no list is lost by it. Else `allFit` asks that bytes are bytes, words are
+-- words of 16 bits, and that a latch has eight of them, which no caller of the code can break.
 -- Assumes nothing.
 use mathlib.Core.Path.{_≡_, refl, sym, _∙_, ap, ap₂}
-use mathlib.Core.Logic.{_⊎_}
+use mathlib.Core.Logic.{_⊎_, inl, inr}
 use mathlib.Core.Bool.{Bool, true, false, _&&_, and-false}
 use mathlib.Core.List.{List, [], _∷_, map}
 use Prim.Native.Nat.{ℕ, suc, _*_, _≤_}
@@ -14,16 +15,17 @@ use lib.ListN.{length, length-map}
 use borrow.Author.Tests.{le-ltb}
 use Rattle.laws.specs.Tests.{within}
 use Rattle.laws.specs.Lists.{written}
-use Rattle.laws.proofs.Cases.{either, no-test}
+use Rattle.laws.proofs.Cases.{either, no-test, by-test}
 use Rattle.stored_spec.specs.StoredForm.{rowCount, wellFormed}
 use Rattle.stored_spec.specs.RowBytes.{twoBytes}
 use Rattle.stored_spec.proofs.Promises.{records-have, formed-records, row-bytes, room-two}
 use Rattle.bank_spec.specs.State.{State, fresh, formed, limitRefused}
-use Rattle.bank_spec.specs.Calls.{accepted, refused, numbered, admitRefusal, admit}
+use Rattle.bank_spec.specs.Calls.{accepted, refused, numbered, Handed, admitRefusal, admit}
 use Rattle.bank_spec.specs.Book.{Book, newBook}
 use Rattle.bank_spec.specs.CallLists.{Call, admission, call, bookCall, stateAfter, Entry, outputsInBook, trace, bookTrace}
 use Rattle.bank_spec.specs.Demand3.{Demand3}
-use Rattle.bank_spec.proofs.Promises.{demand3}
+use Rattle.bank_spec.specs.Due.{timed}
+use Rattle.bank_spec.proofs.Promises.{timed-small, demand3}
 use Rattle.replay.specs.Coded.{Coded, making, calling, codesOf, allFit}
 use Rattle.replay.specs.Entries.{noBank, inBook, bookEntries, onBank, bankAfter, traceBytes}
 use Rattle.replay.specs.Replay.{replay}
@@ -107,11 +109,24 @@ too-long R bytes l e =
     let have = records-have twoBytes R (formed-records R bytes e) in
     either l (λ p. omega (arith, have .whole, have .few)) (λ p. omega (arith, row-bytes R bytes e, room-two (rowCount R), have .rows))
 
-pub uncoded-refused : (s : State) (R bytes : List ℕ) → (65536 ≤ length R) ⊎ (16777216 ≤ length bytes)
-    → call s (admission R bytes) ≡ record { answer = refused 12; state = s }
+pub uncoded-refused : (s : State) (h : Handed) → (65536 ≤ length (h .records)) ⊎ (16777216 ≤ length (h .rows))
+    → call s (admission h) ≡ record { answer = refused 12; state = s }
 unfolding call admit admitRefusal numbered
-uncoded-refused s R bytes l =
-    let no = no-test (wellFormed R bytes) (too-long R bytes l) in
-    let none : (formed (s .bank) (s .scan) && wellFormed R bytes) ≡ false =
+uncoded-refused s h l =
+    let no = no-test (wellFormed (h .records) (h .rows)) (too-long (h .records) (h .rows) l) in
+    let none : (formed (s .bank) (s .scan) && wellFormed (h .records) (h .rows)) ≡ false =
     ap (λ (b : Bool). formed (s .bank) (s .scan) && b) no ∙ and-false (formed (s .bank) (s .scan)) in
     rw none refl
+
+-- a period or a phase of 256 or more is wrong
+too-great : (h : Handed) → (256 ≤ h .period) ⊎ (256 ≤ h .phase) → timed (h .period) (h .phase) ≡ true → ⊥
+too-great h l e =
+    let small = timed-small (h .period) (h .phase) e in
+    either l (λ p. omega (arith, small .0)) (λ p. omega (arith, small .1))
+
+pub untimed-refused : (s : State) (h : Handed) → (256 ≤ h .period) ⊎ (256 ≤ h .phase)
+    → (call s (admission h) ≡ record { answer = refused 12; state = s }) ⊎ (call s (admission h) ≡ record { answer = refused 16; state = s })
+unfolding call admit admitRefusal numbered
+untimed-refused s h l =
+    let no = no-test (timed (h .period) (h .phase)) (too-great h l) in
+    by-test (formed (s .bank) (s .scan) && wellFormed (h .records) (h .rows)) (λ e. inr (rw (e, no) refl)) (λ e. inl (rw e refl))

@@ -14,11 +14,11 @@ use Rattle.bank_spec.specs.declared.Scan.{Scan}
 use Rattle.bank_spec.specs.declared.StepAnswer.{StepAnswer}
 use Rattle.bank_spec.specs.declared.StepAnswer.the-variants.{Went, Idle, Refused}
 use Rattle.bank_spec.specs.State.{State, limitRefused, stateOf}
-use Rattle.bank_spec.specs.Calls.{After, numbered, answerOf, admit, latch, step}
+use Rattle.bank_spec.specs.Calls.{After, numbered, answerOf, handed, admit, latch, step}
 use Rattle.bank.specs.declared.Started.{Started}
 use Rattle.bank.specs.Given.{givenNumber, givenAnswer, started}
 use Rattle.bank_spec.specs.CallLists.{call, admission, latching, stepping}
-use Rattle.replay.specs.Coded.{making, calling, pair, triple, saidSize, size, first}
+use Rattle.replay.specs.Coded.{making, calling, pair, triple, saidSize, size, blockFrom, first}
 use Rattle.replay.specs.Entries.{onBank, kindOf, firstOf, secondOf}
 use Rattle.replay.specs.Replay.{Shown, shown, shownOf}
 
@@ -64,13 +64,14 @@ module _ (k : Bank) (s : Scan) (S : ℕ) {made : Started} (e : made ≡ started 
       (λ t. ap shown (sym (cond-yes (limitRefused S) _ _ t)))
       (λ t. absurd (z (ap (λ (m : Started). m .refusal) (e ∙ cond-no (limitRefused S) _ _ t))))
 
--- the records and rows of an admission, as cut out of its bytes
-pub shown-admit : (k : Bank) (s : Scan) (rows l : List ℕ) (a b : ℕ) {x : Shown} {r : After State} → a ≡ pair l 1 → b ≡ triple l 3
-    → x ≡ shown r → r ≡ admit (stateOf k s rows) (take (6 + a - 6) (drop 6 l)) (take (6 + a + b - (6 + a)) (drop (6 + a) l))
-    → x ≡ shown (admit (stateOf k s rows) (take (pair l 1) (drop 6 l)) (take (triple l 3) (drop (6 + pair l 1) l)))
-shown-admit k s rows l a b p q e d =
-    let u : 6 + a - 6 ≡ pair l 1 = omega (arith, p) in
-    let v : 6 + a + b - (6 + a) ≡ triple l 3 = omega (arith, q) in
+-- the block of an admission, as cut out of its bytes from place i on
+pub shown-admit : (k : Bank) (s : Scan) (rows l : List ℕ) (i period phase a b : ℕ) {x : Shown} {r : After State} → a ≡ pair l 1 → b ≡ triple l 3
+    → x ≡ shown r
+    → r ≡ admit (stateOf k s rows) (handed (take (i + a - i) (drop i l)) (take (i + a + b - (i + a)) (drop (i + a) l)) period phase)
+    → x ≡ shown (admit (stateOf k s rows) (blockFrom i l period phase))
+shown-admit k s rows l i period phase a b p q e d =
+    let u : i + a - i ≡ pair l 1 = omega (arith, p) in
+    let v : i + a + b - (i + a) ≡ triple l 3 = omega (arith, q) in
     e ∙ ap shown (rw (u, v, p) at d)
 
 -- a latch of the words in its bytes
@@ -85,8 +86,11 @@ module _ (l : List ℕ) where
   unfolding first
   first-make e = rw e
 
-  first-admit : getD l 0 0 ≡ 1
-      → first l ≡ calling (admission (take (pair l 1) (drop 6 l)) (take (triple l 3) (drop (6 + pair l 1) l)))
+  first-older : getD l 0 0 ≡ 1 → first l ≡ calling (admission (blockFrom 6 l 1 0))
+  unfolding first
+  first-older e = rw e
+
+  first-admit : getD l 0 0 ≡ 4 → first l ≡ calling (admission (blockFrom 8 l (getD l 6 0) (getD l 7 0)))
   unfolding first
   first-admit e = rw e
 
@@ -94,21 +98,30 @@ module _ (l : List ℕ) where
   unfolding first
   first-latch e = rw e
 
-  first-step : (getD l 0 0 ≡ 0 → ⊥) → (getD l 0 0 ≡ 1 → ⊥) → (getD l 0 0 ≡ 2 → ⊥) → first l ≡ calling stepping
+  first-step : (getD l 0 0 ≡ 0 → ⊥) → (getD l 0 0 ≡ 1 → ⊥) → (getD l 0 0 ≡ 2 → ⊥) → (getD l 0 0 ≡ 4 → ⊥) → first l ≡ calling stepping
   unfolding first
-  first-step p q r = rw (ne-eqb (getD l 0 0) 0 p, ne-eqb (getD l 0 0) 1 q, ne-eqb (getD l 0 0) 2 r)
+  first-step p q r s = rw (ne-eqb (getD l 0 0) 0 p, ne-eqb (getD l 0 0) 1 q, ne-eqb (getD l 0 0) 2 r, ne-eqb (getD l 0 0) 4 s)
 
-  said-admit : getD l 0 0 ≡ 1 → saidSize l ≡ 6 + pair l 1 + triple l 3
+  said-older : getD l 0 0 ≡ 1 → saidSize l ≡ 6 + pair l 1 + triple l 3
+  unfolding saidSize
+  said-older e = rw e
+
+  said-admit : getD l 0 0 ≡ 4 → saidSize l ≡ 8 + pair l 1 + triple l 3
   unfolding saidSize
   said-admit e = rw e
 
   -- an admission's bytes are there
-  pub admission-there : 0 < size l → getD l 0 0 ≡ 1 → 6 + pair l 1 + triple l 3 ≤ length l
+  there : 0 < size l → saidSize l ≤ length l
   unfolding size
-  admission-there h e =
-      by-test (leb (saidSize l) (length l))
-      (λ t. omega (arith, said-admit e, leb-true (saidSize l) (length l) t))
+  there h =
+      by-test (leb (saidSize l) (length l)) (leb-true (saidSize l) (length l))
       (λ t. absurd (omega (arith, h, cond-no (leb (saidSize l) (length l)) (saidSize l) 0 t)))
+
+  pub older-there : 0 < size l → getD l 0 0 ≡ 1 → 6 + pair l 1 + triple l 3 ≤ length l
+  older-there h e = omega (arith, said-older e, there h)
+
+  pub admission-there : 0 < size l → getD l 0 0 ≡ 4 → 8 + pair l 1 + triple l 3 ≤ length l
+  admission-there h e = omega (arith, said-admit e, there h)
 
 -- what it shows on a bank
 module _ (k : Bank) (s : Scan) (rows l : List ℕ) {x : Shown} where
@@ -116,18 +129,21 @@ module _ (k : Bank) (s : Scan) (rows l : List ℕ) {x : Shown} where
       → x ≡ shown (onBank (stateOf k s rows) (first l))
   made-first e p d = rw (first-make l e, sym p) d
 
-  pub admitted-first : getD l 0 0 ≡ 1
-      → x ≡ shown (admit (stateOf k s rows) (take (pair l 1) (drop 6 l)) (take (triple l 3) (drop (6 + pair l 1) l)))
+  pub older-first : getD l 0 0 ≡ 1 → x ≡ shown (admit (stateOf k s rows) (blockFrom 6 l 1 0)) → x ≡ shown (onBank (stateOf k s rows) (first l))
+  unfolding onBank call
+  older-first e d = rw (first-older l e) d
+
+  pub admitted-first : {p f : ℕ} → getD l 0 0 ≡ 4 → p ≡ getD l 6 0 → f ≡ getD l 7 0 → x ≡ shown (admit (stateOf k s rows) (blockFrom 8 l p f))
       → x ≡ shown (onBank (stateOf k s rows) (first l))
   unfolding onBank call
-  admitted-first e d = rw (first-admit l e) d
+  admitted-first e p f d = rw (first-admit l e, sym p, sym f) d
 
   pub latched-first : getD l 0 0 ≡ 2 → x ≡ shown (latch (stateOf k s rows) (tab 8 (λ b. pair l (1 + 2 * b))))
       → x ≡ shown (onBank (stateOf k s rows) (first l))
   unfolding onBank call
   latched-first e d = rw (first-latch l e) d
 
-  pub stepped-first : (getD l 0 0 ≡ 0 → ⊥) → (getD l 0 0 ≡ 1 → ⊥) → (getD l 0 0 ≡ 2 → ⊥) → x ≡ shown (step (stateOf k s rows))
-      → x ≡ shown (onBank (stateOf k s rows) (first l))
+  pub stepped-first : (getD l 0 0 ≡ 0 → ⊥) → (getD l 0 0 ≡ 1 → ⊥) → (getD l 0 0 ≡ 2 → ⊥) → (getD l 0 0 ≡ 4 → ⊥)
+      → x ≡ shown (step (stateOf k s rows)) → x ≡ shown (onBank (stateOf k s rows) (first l))
   unfolding onBank call
-  stepped-first p q r d = rw (first-step l p q r) d
+  stepped-first p q r t d = rw (first-step l p q r t) d

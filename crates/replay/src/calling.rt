@@ -6,8 +6,8 @@ ghost use Rattle.bank_spec.specs.Calls.{admit, latch, step};
 ghost use Rattle.bank_spec.specs.State.{stateOf};
 ghost use Rattle.bank.specs.Given.{givenNumber};
 ghost use Rattle.laws.specs.Lists.{tab};
-ghost use lib.ListN.{length, take, drop};
-ghost use Rattle.replay.specs.Coded.{making, pair, triple, size, first};
+ghost use lib.ListN.{length};
+ghost use Rattle.replay.specs.Coded.{making, pair, triple, size, blockFrom, first};
 ghost use Rattle.replay.specs.Entries.{onBank};
 ghost use Rattle.replay.specs.Replay.{shown, shownOf};
 use crate::coded::byte_at;
@@ -63,16 +63,32 @@ fn make_bank(bank: Bank, scan: Scan, limit: u16) -> Called
     numbered(1, bank, scan)
 }
 
-fn admit_coded(bank: Bank, scan: Scan, list: &[u8], rows: &mut [u8]) -> Called
-    requires { ⌜ 6 + pair (now list) 1 + triple (now list) 3 ≤ length (now list) ⌝ }
+// The block whose records and rows stand from place at on.
+fn admit_coded(
+    bank: Bank,
+    scan: Scan,
+    list: &[u8],
+    at: usize,
+    period: usize,
+    phase: usize,
+    rows: &mut [u8],
+) -> Called
+    requires { ⌜ (at ≤ 8) × (at + pair (now list) 1 + triple (now list) 3 ≤ length (now list)) ⌝ }
     ensures { λ r.
         ⌜ shownOf (r .kind) (r .first) (r .second) (r .bank) (r .scan) (now (rows .exit))
-        ≡ shown (admit (stateOf bank scan (now (rows .entry))) (take (pair (now (list .entry)) 1) (drop 6 (now (list .entry))))
-        (take (triple (now (list .entry)) 3) (drop (6 + pair (now (list .entry)) 1) (now (list .entry))))) ⌝ }
+        ≡ shown (admit (stateOf bank scan (now (rows .entry))) (blockFrom at (now (list .entry)) period phase)) ⌝ }
 {
-    let middle = 6 + pair_at(list, 1);
+    let middle = at + pair_at(list, 1);
     let end = middle + triple_at(list, 3);
-    let done = bank::admit(bank, scan, &list[6..middle], &list[middle..end], rows);
+    let done = bank::admit_every(
+        bank,
+        scan,
+        &list[at..middle],
+        &list[middle..end],
+        period,
+        phase,
+        rows,
+    );
     let bank_after = done.bank;
     let scan_after = done.scan;
     numbered(done.refusal, bank_after, scan_after)
@@ -132,10 +148,21 @@ pub fn call_first(bank: Bank, scan: Scan, list: &[u8], rows: &mut [u8]) -> Calle
         return make_bank(bank, scan, pair_at(list, 1) as u16);
     }
     if code == 1 {
-        return admit_coded(bank, scan, list, rows);
+        return admit_coded(bank, scan, list, 6, 1, 0, rows);
     }
     if code == 2 {
         return latch_coded(bank, scan, list);
+    }
+    if code == 4 {
+        return admit_coded(
+            bank,
+            scan,
+            list,
+            8,
+            byte_at(list, 6),
+            byte_at(list, 7),
+            rows,
+        );
     }
     step_coded(bank, scan, rows)
 }

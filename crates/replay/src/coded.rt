@@ -57,6 +57,11 @@ fn said_size(list: &[u8]) -> usize
     if code == 3 {
         return 1;
     }
+    if code == 4 {
+        let records = pair_at(list, 1);
+        let rows = triple_at(list, 3);
+        return 8 + records + rows;
+    }
     0
 }
 

@@ -19,9 +19,18 @@ use Rattle.stored.specs.Reads.{rowsCounted, cellRails}
 use Rattle.stored.specs.declared.CellRails.{CellRails}
 use Rattle.stored_spec.proofs.Promises.{records-have}
 use Rattle.stored.proofs.Promises.{cells-all, cells-few, formed-fit, rows-counted, rowsTold, rails-told, few-rails, some-rails}
+use Rattle.bank_spec.specs.Due.{timed}
 use Rattle.bank_spec.specs.declared.Bank.{Bank}
 use Rattle.bank_spec.specs.declared.Scan.{Scan}
-use Rattle.bank_spec.specs.State.{recordsOf, blockFormed, cellsBefore, rowsBefore, cellsHeld, rowsHeld, bankFormed, scanFormed}
+use Rattle.bank_spec.specs.State.{recordsOf, periodOf, phaseOf, dueAt, blockFormed, rowsBefore, cellsHeld, rowsHeld, bankFormed, scanFormed, formed}
+
+and-no : (t : Bool) → (t && false) ≡ false
+and-no true = refl
+and-no false = refl
+
+and-yes : (t : Bool) → (t && true) ≡ t
+and-yes true = refl
+and-yes false = refl
 
 module _ (k : Bank) (b : ℕ) where
   -- the part of the records that is lent
@@ -40,15 +49,27 @@ module _ (k : Bank) (b : ℕ) where
   unfolding blockFormed
   too-many e l = rw (within-high 1 20 (getD (k .lengths) b 0) (omega (arith, e, l))) refl
 
-  pub in-number : {n : ℕ} → n ≡ getD (k .lengths) b 0 → 1 ≤ n → n ≤ 20 → recordsFormed (recordsOf k b) ≡ blockFormed k b
+  -- p and f are the period and the phase that are held
+  pub not-timed : {p f : ℕ} → p ≡ periodOf k b → f ≡ phaseOf k b → timed p f ≡ false → false ≡ blockFormed k b
   unfolding blockFormed
-  in-number e l m = rw (within-yes 1 20 (getD (k .lengths) b 0) (omega (arith, e, l)) (omega (arith, e, m))) refl
+  not-timed u v e =
+      let test = within 1 20 (getD (k .lengths) b 0) && recordsFormed (recordsOf k b) in
+      sym (ap (λ (t : Bool). test && t) (sym (ap₂ timed u v) ∙ e) ∙ and-no test)
+
+  pub in-number : {n p f : ℕ} → n ≡ getD (k .lengths) b 0 → 1 ≤ n → n ≤ 20 → p ≡ periodOf k b → f ≡ phaseOf k b → timed p f ≡ true
+      → recordsFormed (recordsOf k b) ≡ blockFormed k b
+  unfolding blockFormed
+  in-number e l m u v t =
+      sym (and-yes (recordsFormed (recordsOf k b)))
+      ∙ rw (within-yes 1 20 (getD (k .lengths) b 0) (omega (arith, e, l)) (omega (arith, e, m)), sym (ap₂ timed u v) ∙ t) refl
 
   -- what a well formed block has
   module _ (e : blockFormed k b ≡ true) where
     block-parts : (within 1 20 (getD (k .lengths) b 0) ≡ true) × (recordsFormed (recordsOf k b) ≡ true)
     unfolding blockFormed
-    block-parts = and-split (within 1 20 (getD (k .lengths) b 0)) (recordsFormed (recordsOf k b)) e
+    block-parts =
+        and-split (within 1 20 (getD (k .lengths) b 0)) (recordsFormed (recordsOf k b))
+        (and-split (within 1 20 (getD (k .lengths) b 0) && recordsFormed (recordsOf k b)) (timed (periodOf k b) (phaseOf k b)) e .0)
 
     pub few-records : getD (k .lengths) b 0 ≤ 20
     few-records = within-has 1 20 (getD (k .lengths) b 0) (block-parts .0) .1
@@ -83,19 +104,11 @@ module _ (k : Bank) (b : ℕ) where
         words-at-most = pow-mono {j = 12} (omega (arith, upper-is, rails-at-most))
 
 -- one block more
-pub cells-next : (k : Bank) (b : ℕ) {n m : ℕ} → n ≡ cellsBefore k b → m ≡ cellCount (recordsOf k b) → n + m ≡ cellsBefore k (b + 1)
-unfolding cellsBefore
-cells-next k b p q = ap₂ (λ (x y : ℕ). x + y) p q ∙ sym (sum-next (λ i. cellCount (recordsOf k i)) b)
-
 pub rows-next : (k : Bank) (b : ℕ) {n m : ℕ} → n ≡ rowsBefore k b → m ≡ rowCount (recordsOf k b) → n + m ≡ rowsBefore k (b + 1)
 unfolding rowsBefore
 rows-next k b p q = ap₂ (λ (x y : ℕ). x + y) p q ∙ sym (sum-next (λ i. rowCount (recordsOf k i)) b)
 
 -- none
-pub no-cells : (k : Bank) → 0 ≡ cellsBefore k 0
-unfolding cellsBefore
-no-cells k = refl
-
 pub no-rows : (k : Bank) → 0 ≡ rowsBefore k 0
 unfolding rowsBefore
 no-rows k = refl
@@ -119,7 +132,7 @@ module _ (k : Bank) where
     unfolding bankFormed
     blocks-bad l e = rw (within-yes 1 255 (k .limit) low high, le-leb (k .count) 8 l, e) refl
 
-    pub blocks-good : k .count ≤ 8 → every (k .count) (blockFormed k) ≡ true → (leb (cellsHeld k) (k .limit) && leb (rowsHeld k) 32768) ≡ bankFormed k
+    pub blocks-good : k .count ≤ 8 → every (k .count) (blockFormed k) ≡ true → (every 8 (λ n. leb (cellsHeld k n) (k .limit)) && leb (rowsHeld k) 32768) ≡ bankFormed k
     unfolding bankFormed
     blocks-good l e = rw (within-yes 1 255 (k .limit) low high, le-leb (k .count) 8 l, e) refl
 
@@ -129,14 +142,14 @@ pub record BankHas (k : Bank) : Type 0 where
   pub high : k .limit ≤ 255
   pub few : k .count ≤ 8
   pub blocks : (b : ℕ) → b < k .count → blockFormed k b ≡ true
-  pub cells : cellsHeld k ≤ k .limit
+  pub cells : (n : ℕ) → n < 8 → cellsHeld k n ≤ k .limit
   pub rows : rowsHeld k ≤ 32768
 
 pub bank-has : (k : Bank) → bankFormed k ≡ true → BankHas k
 unfolding bankFormed
 bank-has k e =
     let d = and-split _ (leb (rowsHeld k) 32768) e in
-    let c = and-split _ (leb (cellsHeld k) (k .limit)) (d .0) in
+    let c = and-split _ (every 8 (λ n. leb (cellsHeld k n) (k .limit))) (d .0) in
     let b = and-split _ (every (k .count) (blockFormed k)) (c .0) in
     let a = and-split (within 1 255 (k .limit)) (leb (k .count) 8) (b .0) in
     let w = within-has 1 255 (k .limit) (a .0) in
@@ -145,22 +158,36 @@ bank-has k e =
       high = w .1;
       few = leb-true (k .count) 8 (a .1);
       blocks = every-at (blockFormed k) (k .count) (b .1);
-      cells = leb-true (cellsHeld k) (k .limit) (c .1);
+      cells = λ n l. leb-true (cellsHeld k n) (k .limit) (every-at (λ n. leb (cellsHeld k n) (k .limit)) 8 (c .1) n l);
       rows = leb-true (rowsHeld k) 32768 (d .1);
     }
 
+pub state-bank : (k : Bank) (s : Scan) → formed k s ≡ true → bankFormed k ≡ true
+unfolding formed
+state-bank k s e = and-split (bankFormed k) (scanFormed k s) e .0
+
 -- the test of a scan state from its parts
 module _ (k : Bank) (s : Scan) where
-  pub not-running : s .running ≡ false → true ≡ scanFormed k s
+  pub number-high : 7 < s .number → false ≡ scanFormed k s
   unfolding scanFormed
-  not-running e = rw e refl
+  number-high l = rw (lt-leb (s .number) 7 l) refl
 
-  pub no-block : s .running ≡ true → k .count ≤ s .block → false ≡ scanFormed k s
-  unfolding scanFormed
-  no-block e l = rw (e, le-ltb (s .block) (k .count) l) refl
+  module _ (low : s .number ≤ 7) where
+    pub not-running : s .running ≡ false → true ≡ scanFormed k s
+    unfolding scanFormed
+    not-running e = rw (le-leb (s .number) 7 low, e) refl
 
-  pub in-block : {b c : ℕ} {t : Bool} → b ≡ s .block → c ≡ s .cell
-      → t ≡ (ltb c (cellCount (recordsOf k b)) && ltb (s .rail) (2 ^ cellAt (recordsOf k b) c .upper)) → s .running ≡ true → s .block < k .count
-      → t ≡ scanFormed k s
-  unfolding scanFormed
-  in-block p q h e l = rw (e, lt-ltb (s .block) (k .count) l, sym p, sym q) h
+    module _ (e : s .running ≡ true) where
+      pub no-block : k .count ≤ s .block → false ≡ scanFormed k s
+      unfolding scanFormed
+      no-block l = rw (le-leb (s .number) 7 low, e, le-ltb (s .block) (k .count) l) refl
+
+      module _ (l : s .block < k .count) {b : ℕ} (p : b ≡ s .block) where
+        pub not-due : dueAt k (s .number) b ≡ false → false ≡ scanFormed k s
+        unfolding scanFormed
+        not-due d = rw (le-leb (s .number) 7 low, e, lt-ltb (s .block) (k .count) l, sym p, d) refl
+
+        pub in-block : {c : ℕ} {t : Bool} → c ≡ s .cell → dueAt k (s .number) b ≡ true
+            → t ≡ (ltb c (cellCount (recordsOf k b)) && ltb (s .rail) (2 ^ cellAt (recordsOf k b) c .upper)) → t ≡ scanFormed k s
+        unfolding scanFormed
+        in-block q d h = rw (le-leb (s .number) 7 low, e, lt-ltb (s .block) (k .count) l, sym p, sym q, d) h

@@ -7,7 +7,7 @@ use Prim.Native.Nat.{ℕ, _+_, _-_, _*_, _^_, _≤_, _<_}
 use native.Mathlib.Omega.{arith}
 use borrow.Author.Tests.{ltb-true}
 use borrow.Rule.Slice.PartMut.{midOf, putMid}
-use lib.Dec.{ltb}
+use lib.Dec.{leb, ltb}
 use lib.ListN.{length, getD, take, drop}
 use lib.Seq.{drop-drop}
 use Rattle.laws.specs.Lists.{written}
@@ -21,7 +21,7 @@ use Rattle.stored.specs.declared.CellRails.{CellRails}
 use Rattle.stored.proofs.Promises.{rowsTold, rails-told, rows-told, few-outs, some-rails, some-row, some-outputs}
 use Rattle.bank_spec.specs.declared.Bank.{Bank}
 use Rattle.bank_spec.specs.declared.Scan.{Scan}
-use Rattle.bank_spec.specs.State.{recordsOf, rowsBefore, rowsHeld, blockFormed, bankFormed, scanFormed, formed}
+use Rattle.bank_spec.specs.State.{recordsOf, dueAt, rowsBefore, rowsHeld, blockFormed, bankFormed, scanFormed, formed}
 use Rattle.bank_spec.specs.Calls.{outputsOf}
 use Rattle.bank.proofs.formed.HeldBlocks.{BankHas, bank-has, few-records, records-well, cells-at-most, part-is}
 
@@ -37,7 +37,8 @@ module _ (k : Bank) (s : Scan) (e : formed k s ≡ true) (on : s .running ≡ tr
   records = recordsOf k (s .block)
 
   abbrev isHeld : Bool
-  isHeld = ltb (s .block) (k .count) && ltb (s .cell) (cellCount records) && ltb (s .rail) (2 ^ cellAt records (s .cell) .upper)
+  isHeld =
+      ltb (s .block) (k .count) && dueAt k (s .number) (s .block) && ltb (s .cell) (cellCount records) && ltb (s .rail) (2 ^ cellAt records (s .cell) .upper)
 
   both-formed : (bankFormed k ≡ true) × (scanFormed k s ≡ true)
   unfolding formed
@@ -48,10 +49,13 @@ module _ (k : Bank) (s : Scan) (e : formed k s ≡ true) (on : s .running ≡ tr
 
   is-held : isHeld ≡ true
   unfolding scanFormed
-  is-held = sym (ap (λ (r : Bool). not r || isHeld) on) ∙ both-formed .1
+  is-held = sym (ap (λ (r : Bool). not r || isHeld) on) ∙ and-split (leb (s .number) 7) (not (s .running) || isHeld) (both-formed .1) .1
 
   both-held : (ltb (s .block) (k .count) ≡ true) × (ltb (s .cell) (cellCount records) ≡ true)
-  both-held = and-split _ _ (and-split _ (ltb (s .rail) (2 ^ cellAt records (s .cell) .upper)) is-held .0)
+  both-held =
+      let c = and-split (ltb (s .block) (k .count) && dueAt k (s .number) (s .block)) (ltb (s .cell) (cellCount records))
+      (and-split (ltb (s .block) (k .count) && dueAt k (s .number) (s .block) && ltb (s .cell) (cellCount records)) (ltb (s .rail) (2 ^ cellAt records (s .cell) .upper)) is-held .0) in
+      (and-split (ltb (s .block) (k .count)) (dueAt k (s .number) (s .block)) (c .0) .0, c .1)
 
   pub block-held : s .block < k .count
   block-held = ltb-true (s .block) (k .count) (both-held .0)
@@ -71,7 +75,7 @@ module _ (k : Bank) (s : Scan) (e : formed k s ≡ true) (on : s .running ≡ tr
   rail-held : s .rail < 2 ^ cellAt records (s .cell) .upper
   rail-held =
       ltb-true (s .rail) (2 ^ cellAt records (s .cell) .upper)
-      (and-split (ltb (s .block) (k .count) && ltb (s .cell) (cellCount records)) (ltb (s .rail) (2 ^ cellAt records (s .cell) .upper)) is-held .1)
+      (and-split (ltb (s .block) (k .count) && dueAt k (s .number) (s .block) && ltb (s .cell) (cellCount records)) (ltb (s .rail) (2 ^ cellAt records (s .cell) .upper)) is-held .1)
 
   cell-there : hasCell records (s .cell) ≡ true
   unfolding hasCell

@@ -15,7 +15,7 @@ use Rattle.stored_spec.specs.Run.{outputsAfter, railAfter}
 use Rattle.bank_spec.specs.declared.Bank.{Bank}
 use Rattle.bank_spec.specs.declared.Scan.{Scan}
 use Rattle.bank_spec.specs.State.{recordsOf, rowsHeld, formed, stateOf}
-use Rattle.bank_spec.specs.Calls.{answerOf, scanAt, nextRow, outputsOf, moved, step}
+use Rattle.bank_spec.specs.Calls.{answerOf, scanAt, scanFrom, nextRow, outputsOf, moved, step}
 use Rattle.bank.specs.Given.{givenAnswer}
 use Rattle.bank_spec.specs.declared.StepAnswer.the-variants.{Went, Idle, Refused}
 
@@ -25,17 +25,13 @@ module _ (k : Bank) (s : Scan) (x : ℕ) {l : List ℕ}
   more = ltb (s .cell + 1) (cellCount (recordsOf k (s .block)))
 
   pub next-cell : more ≡ true → {r : ℕ} → r ≡ railAfter (cellAt (recordsOf k (s .block)) (s .cell)) x
-      → scanAt true (s .block) (s .cell + 1) r (s .words) l ≡ moved k s x
+      → scanAt true (s .block) (s .cell + 1) r (s .number) (s .words) l ≡ moved k s x
   unfolding moved
-  next-cell e q = rw e (ap₂ (λ (r : ℕ) (o : List ℕ). scanAt true (s .block) (s .cell + 1) r (s .words) o) q p)
+  next-cell e q = rw e (ap₂ (λ (r : ℕ) (o : List ℕ). scanAt true (s .block) (s .cell + 1) r (s .number) (s .words) o) q p)
 
-  pub next-block : more ≡ false → s .block + 1 < k .count → scanAt true (s .block + 1) 0 0 (s .words) l ≡ moved k s x
+  pub next-block : more ≡ false → {b : ℕ} → b ≡ s .block + 1 → {t : Scan} → t ≡ scanFrom k (s .number) b (s .words) l → t ≡ moved k s x
   unfolding moved
-  next-block e h = rw (e, lt-ltb (s .block + 1) (k .count) h) (ap (scanAt true (s .block + 1) 0 0 (s .words)) p)
-
-  pub scan-over : more ≡ false → k .count ≤ s .block + 1 → scanAt false 0 0 0 (s .words) l ≡ moved k s x
-  unfolding moved
-  scan-over e h = rw (e, le-ltb (s .block + 1) (k .count) h) (ap (scanAt false 0 0 0 (s .words)) p)
+  next-block e q h = h ∙ rw e (ap₂ (λ (b : ℕ) (o : List ℕ). scanFrom k (s .number) b (s .words) o) q p)
 
 module _ (k : Bank) (s : Scan) (rows : List ℕ) where
   pub not-formed : formed k s ≡ false → givenAnswer (Refused 12) k s rows ≡ step (stateOf k s rows)

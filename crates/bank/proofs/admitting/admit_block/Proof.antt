@@ -1,12 +1,24 @@
--- `bank::admitting::admit_block` meets its contract.
--- Assumes nothing.
 use mathlib.Core.Path.{sym, _∙_}
-use native.Mathlib.Omega.{arith}
 use borrow.Author.Tests.{not-true, not-false}
-use Rattle.bank.proofs.admitting.AdmissionCases.{bank-there, block-has, admit-12-state, admit-12-block, admit-13, admit-14, admit-11, rows-fit, admit-accepts}
+use native.Mathlib.Omega.{arith}
+use Rattle.bank.proofs.admitting.AdmissionCases.{bank-there, block-has, admit-12-state, admit-12-block, admit-16, admit-13, admit-14, admit-11, rows-fit, admit-accepts}
+use Rattle.bank_spec.proofs.Promises.{timed-small}
 use borrow.Author.Needs.{needs}
 use Rattle.bank.proofs.admitting.admit_block.Statement.{statement}
 use Rattle.bank.proofs.admitting.admit_block.Tie as tie
+use Rattle.bank.proofs.admitting.admit_block.Reads as reads
+use Rattle.bank.proofs.admitting.admit_block.Lts as lts
+use Rattle.bank.proofs.admitting.at_rest.Reads as at-rest-reads
+use Rattle.bank.proofs.admitting.copy_at.Reads as copy-at-reads
+use Rattle.bank.proofs.admitting.with_block.Reads as with-block-reads
+use Rattle.bank.proofs.due_blocks.timed.Reads as timed-reads
+use Rattle.numbers.proofs.wide.Reads as wide-reads
+use Rattle.bank.proofs.formed.cells_fit.Reads as cells-fit-reads
+use Rattle.bank.proofs.formed.rows_before.Reads as rows-before-reads
+use Rattle.bank.proofs.formed.state_formed.Reads as state-formed-reads
+use Rattle.stored.proofs.cell_count.Reads as cell-count-reads
+use Rattle.stored.proofs.row_count.Reads as row-count-reads
+use Rattle.stored.proofs.well_formed.Reads as well-formed-reads
 
 state-formed-requires : tie.Need-state-formed-requires
 state-formed-requires c κs = search needs
@@ -14,7 +26,7 @@ state-formed-requires c κs = search needs
 returns : tie.Need-returns
 returns c =
     let a = c .before .before .before .before .before .args in
-    admit-12-state (a .bank) (a .scan) (a .rows .now) (a .records .now) (a .bytes .now) (sym (c .before .state-formed .ensures) ∙ not-true _ (c .if1 .taken))
+    admit-12-state (a .bank) (a .scan) (a .rows .now) (a .records .now) (a .bytes .now) (a .period) (a .phase) (sym (c .before .state-formed .ensures) ∙ not-true _ (c .if1 .taken))
 
 well-formed-requires : tie.Need-well-formed-requires
 well-formed-requires c κs = search needs
@@ -23,53 +35,71 @@ returns-2 : tie.Need-returns-2
 returns-2 c =
     let a = c .before .before .before .before .before .before .before .args in
     let f = sym (c .before .before .before .state-formed .ensures) ∙ not-false _ (c .before .before .if1 .left) in
-    admit-12-block (a .bank) (a .scan) (a .rows .now) (a .records .now) (a .bytes .now) f (sym (c .before .well-formed .ensures) ∙ not-true _ (c .if2 .taken))
+    admit-12-block (a .bank) (a .scan) (a .rows .now) (a .records .now) (a .bytes .now) (a .period) (a .phase) f (sym (c .before .well-formed .ensures) ∙ not-true _ (c .if2 .taken))
+
+timed-requires : tie.Need-timed-requires
+timed-requires c κs = search needs
+
+returns-3 : tie.Need-returns-3
+returns-3 c =
+    let a = c .before .before .before .before .before .before .before .before .before .args in
+    let f = sym (c .before .before .before .before .before .state-formed .ensures) ∙ not-false _ (c .before .before .before .before .if1 .left) in
+    let w = sym (c .before .before .before .well-formed .ensures) ∙ not-false _ (c .before .before .if2 .left) in
+    admit-16 (a .bank) (a .scan) (a .rows .now) (a .records .now) (a .bytes .now) (a .period) (a .phase) f w (sym (c .before .timed .ensures) ∙ not-true _ (c .if3 .taken))
+
+cast-period-byte : tie.Need-cast-period-byte
+cast-period-byte c =
+    let a = c .before .before .before .before .before .before .before .before .before .args in
+    let z = sym (c .before .timed .ensures) ∙ not-false _ (c .if3 .left) in
+    omega (arith, timed-small (a .period) (a .phase) z .0)
+
+cast-phase-byte : tie.Need-cast-phase-byte
+cast-phase-byte c =
+    let a = c .before .before .before .before .before .before .before .before .before .args in
+    let z = sym (c .before .timed .ensures) ∙ not-false _ (c .if3 .left) in
+    omega (arith, timed-small (a .period) (a .phase) z .1)
 
 wide-requires : tie.Need-wide-requires
 wide-requires c κs = search needs
 
-returns-3 : tie.Need-returns-3
-returns-3 c =
+returns-4 : tie.Need-returns-4
+returns-4 c =
     let q = c .before in
-    let a = q .before .before .before .before .before .before .before .before .args in
-    let f = sym (q .before .before .before .before .state-formed .ensures) ∙ not-false _ (q .before .before .before .if1 .left) in
-    let w = sym (q .before .before .well-formed .ensures) ∙ not-false _ (q .before .if2 .left) in
-    admit-13 (a .bank) (a .scan) (a .rows .now) (a .records .now) (a .bytes .now) f w (q .wide .ensures .0) (c .if3 .taken)
-
-cells-before-requires : tie.Need-cells-before-requires
-cells-before-requires c κs =
-    let q = c .before in
-    let a = q .before .before .before .before .before .before .before .before .args in
-    let f = sym (q .before .before .before .before .state-formed .ensures) ∙ not-false _ (q .before .before .before .if1 .left) in
-    let k = bank-there (a .bank) (a .scan) f in
-    (omega (arith, k .few, q .wide .ensures .0), λ b l. k .blocks b (omega (arith, l, q .wide .ensures .0)))
+    let a = q .before .before .before .before .before .before .before .before .before .before .args in
+    let f = sym (q .before .before .before .before .before .before .state-formed .ensures) ∙ not-false _ (q .before .before .before .before .before .if1 .left) in
+    let w = sym (q .before .before .before .before .well-formed .ensures) ∙ not-false _ (q .before .before .before .if2 .left) in
+    let z = sym (q .before .before .timed .ensures) ∙ not-false _ (q .before .if3 .left) in
+    admit-13 (a .bank) (a .scan) (a .rows .now) (a .records .now) (a .bytes .now) (a .period) (a .phase) f w z (q .wide .ensures .0) (c .if4 .taken)
 
 cell-count-requires : tie.Need-cell-count-requires
 cell-count-requires c κs = search needs
 
-add-cells : tie.Need-add-cells
-add-cells c =
-    let q = c .before .before .before in
-    let a = q .before .before .before .before .before .before .before .before .args in
-    let w = sym (q .before .before .well-formed .ensures) ∙ not-false _ (q .before .if2 .left) in
-    omega (arith, c .before .cells-before .ensures .1, c .cell-count .ensures, block-has (a .records .now) (a .bytes .now) w .cells)
+cells-fit-requires : tie.Need-cells-fit-requires
+cells-fit-requires c κs =
+    let q = c .before .before in
+    let a = q .before .before .before .before .before .before .before .before .before .before .args in
+    let f = sym (q .before .before .before .before .before .before .state-formed .ensures) ∙ not-false _ (q .before .before .before .before .before .if1 .left) in
+    let w = sym (q .before .before .before .before .well-formed .ensures) ∙ not-false _ (q .before .before .before .if2 .left) in
+    let z = sym (q .before .before .timed .ensures) ∙ not-false _ (q .before .if3 .left) in
+    let k = bank-there (a .bank) (a .scan) f in
+    (omega (arith, k .few, q .wide .ensures .0), (λ b l. k .blocks b (omega (arith, l, q .wide .ensures .0))), z, omega (arith, c .cell-count .ensures, block-has (a .records .now) (a .bytes .now) w .cells))
 
-cast-if4 : tie.Need-cast-if4
-cast-if4 c = search needs
-
-returns-4 : tie.Need-returns-4
-returns-4 c =
-    let q = c .before .before .before .before .before in
-    let a = q .before .before .before .before .before .before .before .before .args in
-    let f = sym (q .before .before .before .before .state-formed .ensures) ∙ not-false _ (q .before .before .before .if1 .left) in
-    let w = sym (q .before .before .well-formed .ensures) ∙ not-false _ (q .before .if2 .left) in
-    admit-14 (a .bank) (a .scan) (a .rows .now) (a .records .now) (a .bytes .now) f w (q .wide .ensures .0) (c .before .before .before .before .if3 .left) (c .before .before .before .cells-before .ensures .0) (c .before .before .cell-count .ensures) (c .if4 .taken)
+returns-5 : tie.Need-returns-5
+returns-5 c =
+    let q = c .before .before .before .before in
+    let a = q .before .before .before .before .before .before .before .before .before .before .args in
+    let f = sym (q .before .before .before .before .before .before .state-formed .ensures) ∙ not-false _ (q .before .before .before .before .before .if1 .left) in
+    let w = sym (q .before .before .before .before .well-formed .ensures) ∙ not-false _ (q .before .before .before .if2 .left) in
+    let z = sym (q .before .before .timed .ensures) ∙ not-false _ (q .before .if3 .left) in
+    admit-14 (a .bank) (a .scan) (a .rows .now) (a .records .now) (a .bytes .now) (a .period) (a .phase) f w z (q .wide .ensures .0) (c .before .before .before .if4 .left) (c .before .before .cell-count .ensures) (c .before .cells-fit .ensures) (not-true _ (c .if5 .taken))
 
 rows-before-requires : tie.Need-rows-before-requires
 rows-before-requires c κs =
-    let q = c .before .before .before .before .before in
-    let a = q .before .before .before .before .before .before .before .before .args in
-    let f = sym (q .before .before .before .before .state-formed .ensures) ∙ not-false _ (q .before .before .before .if1 .left) in
+    let q = c .before .before .before .before in
+    let a = q .before .before .before .before .before .before .before .before .before .before .args in
+    let f = sym (q .before .before .before .before .before .before .state-formed .ensures) ∙ not-false _ (q .before .before .before .before .before .if1 .left) in
+    let w = sym (q .before .before .before .before .well-formed .ensures) ∙ not-false _ (q .before .before .before .if2 .left) in
+    let z = sym (q .before .before .timed .ensures) ∙ not-false _ (q .before .if3 .left) in
     let k = bank-there (a .bank) (a .scan) f in
     (omega (arith, k .few, q .wide .ensures .0), λ b l. k .blocks b (omega (arith, l, q .wide .ensures .0)))
 
@@ -78,45 +108,49 @@ row-count-requires c κs = search needs
 
 add-total : tie.Need-add-total
 add-total c =
-    let q = c .before .before .before .before .before .before .before in
-    let a = q .before .before .before .before .before .before .before .before .args in
-    let w = sym (q .before .before .well-formed .ensures) ∙ not-false _ (q .before .if2 .left) in
+    let q = c .before .before .before .before .before .before in
+    let a = q .before .before .before .before .before .before .before .before .before .before .args in
+    let f = sym (q .before .before .before .before .before .before .state-formed .ensures) ∙ not-false _ (q .before .before .before .before .before .if1 .left) in
+    let w = sym (q .before .before .before .before .well-formed .ensures) ∙ not-false _ (q .before .before .before .if2 .left) in
+    let z = sym (q .before .before .timed .ensures) ∙ not-false _ (q .before .if3 .left) in
     omega (arith, c .before .rows-before .ensures .1, c .row-count .ensures, block-has (a .records .now) (a .bytes .now) w .few)
 
-mul-if5 : tie.Need-mul-if5
-mul-if5 c =
-    let q = c .before .before .before .before .before .before .before in
-    let a = q .before .before .before .before .before .before .before .before .args in
-    let w = sym (q .before .before .well-formed .ensures) ∙ not-false _ (q .before .if2 .left) in
+mul-if6 : tie.Need-mul-if6
+mul-if6 c =
+    let q = c .before .before .before .before .before .before in
+    let a = q .before .before .before .before .before .before .before .before .before .before .args in
+    let w = sym (q .before .before .before .before .well-formed .ensures) ∙ not-false _ (q .before .before .before .if2 .left) in
     omega (arith, c .before .rows-before .ensures .1, c .row-count .ensures, block-has (a .records .now) (a .bytes .now) w .few)
 
-returns-5 : tie.Need-returns-5
-returns-5 c =
-    let q = c .before .before .before .before .before .before .before .before in
-    let a = q .before .before .before .before .before .before .before .before .args in
-    let f = sym (q .before .before .before .before .state-formed .ensures) ∙ not-false _ (q .before .before .before .if1 .left) in
-    let w = sym (q .before .before .well-formed .ensures) ∙ not-false _ (q .before .if2 .left) in
-    admit-11 (a .bank) (a .scan) (a .rows .now) (a .records .now) (a .bytes .now) f w (q .wide .ensures .0) (c .before .before .before .before .before .before .before .if3 .left) (c .before .before .before .before .before .before .cells-before .ensures .0) (c .before .before .before .before .before .cell-count .ensures)
-    (c .before .before .before .if4 .left) (c .before .before .rows-before .ensures .0) (c .before .row-count .ensures) (c .if5 .taken)
+returns-6 : tie.Need-returns-6
+returns-6 c =
+    let q = c .before .before .before .before .before .before .before in
+    let a = q .before .before .before .before .before .before .before .before .before .before .args in
+    let f = sym (q .before .before .before .before .before .before .state-formed .ensures) ∙ not-false _ (q .before .before .before .before .before .if1 .left) in
+    let w = sym (q .before .before .before .before .well-formed .ensures) ∙ not-false _ (q .before .before .before .if2 .left) in
+    let z = sym (q .before .before .timed .ensures) ∙ not-false _ (q .before .if3 .left) in
+    admit-11 (a .bank) (a .scan) (a .rows .now) (a .records .now) (a .bytes .now) (a .period) (a .phase) f w z (q .wide .ensures .0) (c .before .before .before .before .before .before .if4 .left) (c .before .before .before .before .before .cell-count .ensures) (c .before .before .before .before .cells-fit .ensures) (not-false _ (c .before .before .before .if5 .left)) (c .before .before .rows-before .ensures .0) (c .before .row-count .ensures) (c .if6 .taken)
 
 mul-copy-at : tie.Need-mul-copy-at
 mul-copy-at c = search needs
 
 copy-at-requires : tie.Need-copy-at-requires
 copy-at-requires c κs =
-    let q = c .before .before .before .before .before .before .before .before .before in
-    let a = q .before .before .before .before .before .before .before .before .args in
-    let f = sym (q .before .before .before .before .state-formed .ensures) ∙ not-false _ (q .before .before .before .if1 .left) in
-    let w = sym (q .before .before .well-formed .ensures) ∙ not-false _ (q .before .if2 .left) in
-    rows-fit (a .bank) (a .scan) (a .rows .now) (a .records .now) (a .bytes .now) f w (q .wide .ensures .0) (c .before .before .before .before .before .before .before .before .if3 .left) (c .before .before .before .before .before .before .before .cells-before .ensures .0) (c .before .before .before .before .before .before .cell-count .ensures)
-    (c .before .before .before .before .if4 .left) (c .before .before .before .rows-before .ensures .0) (c .before .before .row-count .ensures) (c .before .if5 .left)
+    let q = c .before .before .before .before .before .before .before .before in
+    let a = q .before .before .before .before .before .before .before .before .before .before .args in
+    let f = sym (q .before .before .before .before .before .before .state-formed .ensures) ∙ not-false _ (q .before .before .before .before .before .if1 .left) in
+    let w = sym (q .before .before .before .before .well-formed .ensures) ∙ not-false _ (q .before .before .before .if2 .left) in
+    let z = sym (q .before .before .timed .ensures) ∙ not-false _ (q .before .if3 .left) in
+    rows-fit (a .bank) (a .scan) (a .rows .now) (a .records .now) (a .bytes .now) (a .period) (a .phase) f w z (q .wide .ensures .0) (c .before .before .before .before .before .before .before .if4 .left) (c .before .before .before .before .before .before .cell-count .ensures) (c .before .before .before .before .before .cells-fit .ensures) (not-false _ (c .before .before .before .before .if5 .left)) (c .before .before .before .rows-before .ensures .0) (c .before .before .row-count .ensures) (c .before .if6 .left)
 
 with-block-requires : tie.Need-with-block-requires
 with-block-requires c κs =
-    let q = c .before .before .before .before .before .before .before .before .before .before .before .before in
-    let a = q .before .before .before .before .before .before .before .before .args in
-    let w = sym (q .before .before .well-formed .ensures) ∙ not-false _ (q .before .if2 .left) in
-    (omega (arith, c .before .before .before .before .before .before .before .before .before .before .before .if3 .left, q .wide .ensures .0), block-has (a .records .now) (a .bytes .now) w .size)
+    let q = c .before .before .before .before .before .before .before .before .before .before .before in
+    let a = q .before .before .before .before .before .before .before .before .before .before .args in
+    let f = sym (q .before .before .before .before .before .before .state-formed .ensures) ∙ not-false _ (q .before .before .before .before .before .if1 .left) in
+    let w = sym (q .before .before .before .before .well-formed .ensures) ∙ not-false _ (q .before .before .before .if2 .left) in
+    let z = sym (q .before .before .timed .ensures) ∙ not-false _ (q .before .if3 .left) in
+    (omega (arith, c .before .before .before .before .before .before .before .before .before .before .if4 .left, q .wide .ensures .0), block-has (a .records .now) (a .bytes .now) w .size)
 
 at-rest-requires : tie.Need-at-rest-requires
 at-rest-requires c κs = search needs
@@ -124,15 +158,14 @@ at-rest-requires c κs = search needs
 same-length : tie.Need-same-length
 same-length c = search needs
 
-returns-6 : tie.Need-returns-6
-returns-6 c =
-    let q = c .before .before .before .before .before .before .before .before .before .before .before .before .before .before in
-    let a = q .before .before .before .before .before .before .before .before .args in
-    let f = sym (q .before .before .before .before .state-formed .ensures) ∙ not-false _ (q .before .before .before .if1 .left) in
-    let w = sym (q .before .before .well-formed .ensures) ∙ not-false _ (q .before .if2 .left) in
-    admit-accepts (a .bank) (a .scan) (a .rows .now) (a .records .now) (a .bytes .now) f w (q .wide .ensures .0) (c .before .before .before .before .before .before .before .before .before .before .before .before .before .if3 .left) (c .before .before .before .before .before .before .before .before .before .before .before .before .cells-before .ensures .0) (c .before .before .before .before .before .before .before .before .before .before .before .cell-count .ensures)
-    (c .before .before .before .before .before .before .before .before .before .if4 .left) (c .before .before .before .before .before .before .before .before .rows-before .ensures .0) (c .before .before .before .before .before .before .before .row-count .ensures)
-    (c .before .before .before .before .before .before .if5 .left) (c .before .with-block .ensures) (c .at-rest .ensures) (c .before .before .before .before .copy-at .ensures)
+returns-7 : tie.Need-returns-7
+returns-7 c =
+    let q = c .before .before .before .before .before .before .before .before .before .before .before .before .before in
+    let a = q .before .before .before .before .before .before .before .before .before .before .args in
+    let f = sym (q .before .before .before .before .before .before .state-formed .ensures) ∙ not-false _ (q .before .before .before .before .before .if1 .left) in
+    let w = sym (q .before .before .before .before .well-formed .ensures) ∙ not-false _ (q .before .before .before .if2 .left) in
+    let z = sym (q .before .before .timed .ensures) ∙ not-false _ (q .before .if3 .left) in
+    admit-accepts (a .bank) (a .scan) (a .rows .now) (a .records .now) (a .bytes .now) (a .period) (a .phase) f w z (q .wide .ensures .0) (c .before .before .before .before .before .before .before .before .before .before .before .before .if4 .left) (c .before .before .before .before .before .before .before .before .before .before .before .cell-count .ensures) (c .before .before .before .before .before .before .before .before .before .before .cells-fit .ensures) (not-false _ (c .before .before .before .before .before .before .before .before .before .if5 .left)) (c .before .before .before .before .before .before .before .before .rows-before .ensures .0) (c .before .before .before .before .before .before .before .row-count .ensures) (c .before .before .before .before .before .before .if6 .left) (c .before .with-block .ensures) (c .at-rest .ensures) (c .before .before .before .before .copy-at .ensures)
 
 pub admit-block-spec : {M : Type 1} → statement M
 admit-block-spec =
@@ -142,21 +175,23 @@ admit-block-spec =
     returns
     well-formed-requires
     returns-2
-    wide-requires
+    timed-requires
     returns-3
-    cells-before-requires
-    cell-count-requires
-    add-cells
-    cast-if4
+    cast-period-byte
+    cast-phase-byte
+    wide-requires
     returns-4
+    cell-count-requires
+    cells-fit-requires
+    returns-5
     rows-before-requires
     row-count-requires
     add-total
-    mul-if5
-    returns-5
+    mul-if6
+    returns-6
     mul-copy-at
     copy-at-requires
     with-block-requires
     at-rest-requires
     same-length
-    returns-6)
+    returns-7)

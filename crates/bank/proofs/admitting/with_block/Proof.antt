@@ -1,13 +1,15 @@
--- `bank::admitting::with_block` meets its contract.
--- Assumes nothing.
 use mathlib.Core.Path.{_≡_}
 use Prim.Native.Nat.{_+_, _*_, _≤_}
-use native.Mathlib.Omega.{arith}
 use lib.ListN.{length}
+use native.Mathlib.Omega.{arith}
 use Rattle.bank.proofs.admitting.AdmissionCases.{block-added}
 use borrow.Author.Needs.{needs}
 use Rattle.bank.proofs.admitting.with_block.Statement.{statement}
 use Rattle.bank.proofs.admitting.with_block.Tie as tie
+use Rattle.bank.proofs.admitting.with_block.Reads as reads
+use Rattle.bank.proofs.admitting.with_block.Lts as lts
+use Rattle.bank.proofs.admitting.copy_at.Reads as copy-at-reads
+use Rattle.numbers.proofs.wide.Reads as wide-reads
 
 wide-requires : tie.Need-wide-requires
 wide-requires c κs = search needs
@@ -26,20 +28,26 @@ slice-aggregate-copy-at c = search needs
 
 copy-at-requires : tie.Need-copy-at-requires
 copy-at-requires c κs =
-    let a = c .before .before .before .before .before .args in
+    let a = c .before .before .before .before .before .before .args in
     let z : length (a .bank .records) ≡ 640 = search needs in
     let g : c .before .before .before .wide .result * 80 + length (a .records .now) ≤ length (a .bank .records) = omega arith in
     g
 
-add-t8 : tie.Need-add-t8
-add-t8 c = search needs
+array-write-periods : tie.Need-array-write-periods
+array-write-periods c = search needs
+
+array-write-phases : tie.Need-array-write-phases
+array-write-phases c = search needs
+
+add-t13 : tie.Need-add-t13
+add-t13 c = search needs
 
 returns : tie.Need-returns
 returns c =
-    let a = c .before .before .before .before .before .before .before .before .args in
+    let a = c .before .before .before .before .before .before .before .before .before .before .before .args in
     let z : length (a .bank .records) ≡ 640 = search needs in
-    let g : c .before .before .before .before .before .before .wide .result * 80 + length (a .records .now) ≤ length (a .bank .records) = omega arith in
-    block-added (a .bank) (a .records .now) (c .before .before .before .before .before .before .wide .ensures .0) g (c .before .before .copy-at .ensures)
+    let g : c .before .before .before .before .before .before .before .before .wide .result * 80 + length (a .records .now) ≤ length (a .bank .records) = omega arith in
+    block-added (a .bank) (a .records .now) (a .bytes .now) (a .period) (a .phase) (c .before .before .before .before .before .before .before .before .wide .ensures .0) g (c .before .before .before .before .copy-at .ensures)
 
 pub with-block-spec : {M : Type 1} → statement M
 with-block-spec =
@@ -51,5 +59,7 @@ with-block-spec =
     mul-copy-at
     slice-aggregate-copy-at
     copy-at-requires
-    add-t8
+    array-write-periods
+    array-write-phases
+    add-t13
     returns)

@@ -1,7 +1,6 @@
 -- `bank::latching::latch_words` meets its contract.
 -- Assumes nothing.
 use mathlib.Core.Path.{sym, _∙_}
-use Rattle.bank.proofs.admitting.AdmissionCases.{bank-there}
 use Rattle.bank.proofs.latching.LatchCases.{latch-accepts, latch-12}
 use borrow.Author.Needs.{needs}
 use Rattle.bank.proofs.latching.latch_words.Statement.{statement}
@@ -11,9 +10,7 @@ state-formed-requires : tie.Need-state-formed-requires
 state-formed-requires c κs = search needs
 
 latched-requires : tie.Need-latched-requires
-latched-requires c κs =
-    let a = c .before .before .args in
-    bank-there (a .bank) (a .scan) (sym (c .before .state-formed .ensures) ∙ c .if1 .taken) .few
+latched-requires c κs = sym (c .before .state-formed .ensures) ∙ c .if1 .taken
 
 returns : tie.Need-returns
 returns c =

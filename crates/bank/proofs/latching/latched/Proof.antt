@@ -1,15 +1,36 @@
--- `bank::latching::latched` meets its contract.
--- Assumes nothing.
-use Rattle.bank.proofs.latching.LatchCases.{latched-as}
+use native.Mathlib.Omega.{arith}
+use Rattle.bank.proofs.formed.HeldBlocks.{state-bank}
+use Rattle.bank.proofs.latching.LatchCases.{state-number, latched-is}
 use borrow.Author.Needs.{needs}
 use Rattle.bank.proofs.latching.latched.Statement.{statement}
 use Rattle.bank.proofs.latching.latched.Tie as tie
+use Rattle.bank.proofs.latching.latched.Reads as reads
+use Rattle.bank.proofs.latching.latched.Lts as lts
+use Rattle.bank.proofs.latching.outputs_kept.Reads as outputs-kept-reads
+use Rattle.bank.proofs.latching.scan_from.Reads as scan-from-reads
+use Rattle.bank.proofs.latching.words_kept.Reads as words-kept-reads
+
+add-number : tie.Need-add-number
+add-number c =
+    let a = c .before .args in
+    let small = state-number (a .bank) (a .scan) (c .before .pre) in
+    search needs
 
 words-kept-requires : tie.Need-words-kept-requires
-words-kept-requires c κs = search needs
+words-kept-requires c κs = state-bank (c .before .before .before .args .bank) (c .before .before .before .args .scan) (c .before .before .before .pre)
+
+outputs-kept-requires : tie.Need-outputs-kept-requires
+outputs-kept-requires c κs = state-bank (c .before .before .before .before .args .bank) (c .before .before .before .before .args .scan) (c .before .before .before .before .pre)
+
+scan-from-requires : tie.Need-scan-from-requires
+scan-from-requires c κs = (omega arith, state-bank (c .before .before .before .before .before .args .bank) (c .before .before .before .before .before .args .scan) (c .before .before .before .before .before .pre))
 
 returns : tie.Need-returns
-returns c = let a = c .before .before .args in latched-as (a .bank) (a .words) (c .words-kept .ensures)
+returns c =
+    let a = c .before .before .before .before .before .before .args in
+    latched-is (a .bank) (a .scan) _ (c .before .before .words-kept .ensures) (c .before .outputs-kept .ensures) (c .scan-from .ensures)
 
 pub latched-spec : {M : Type 1} → statement M
-latched-spec = tie.close (tie.spec words-kept-requires returns)
+latched-spec =
+    tie.close
+    (tie.spec add-number words-kept-requires outputs-kept-requires scan-from-requires returns)

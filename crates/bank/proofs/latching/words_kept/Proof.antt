@@ -1,37 +1,42 @@
--- `bank::latching::words_kept` meets its contract.
--- Assumes nothing.
 use mathlib.Core.Path.{_≡_, refl, sym, _∙_}
-use Prim.Native.Nat.{_≤_, _-_, _%_}
+use Prim.Native.Nat.{_≤_, _-_}
 use native.Mathlib.Omega.{arith}
-use lib.ListN.{getD}
 use Rattle.laws.specs.Lists.{puts}
-use Rattle.laws.proofs.Puts.{puts-none, puts-next}
-use Rattle.bank.proofs.latching.LatchCases.{words-stored}
+use Rattle.laws.proofs.Puts.{puts-none, puts-next, puts-whole}
+use Rattle.bank.proofs.latching.LatchCases.{wordIn, words-all}
 use borrow.Author.Needs.{needs}
 use Rattle.bank.proofs.latching.words_kept.Statement.{statement}
 use Rattle.bank.proofs.latching.words_kept.Tie as tie
+use Rattle.bank.proofs.latching.words_kept.Reads as reads
+use Rattle.bank.proofs.latching.words_kept.Lts as lts
+use Rattle.bank.proofs.latching.word_kept.Reads as word-kept-reads
 
 abbrev Inv-loop : tie.InvT-loop
-Inv-loop words count kept₀ b₀ kept b = (b ≤ count) × (kept ≡ puts b (λ i. getD words i 0 % 4096) kept₀)
+Inv-loop bank number old words kept₀ b₀ kept b = (b ≤ 8) × (kept ≡ puts b (wordIn bank number old words) kept₀)
 
 abbrev μ-loop : tie.MeasureT-loop
-μ-loop words count kept₀ b₀ kept b = count - b
-
-wide-requires : tie.Need-wide-requires Inv-loop μ-loop
-wide-requires c κs = search needs
+μ-loop bank number old words kept₀ b₀ kept b = 8 - b
 
 loop-holds : tie.Need-loop-holds Inv-loop μ-loop
-loop-holds c =
-    (omega arith, sym (puts-none (λ i. getD (c .before .args .t2) i 0 % 4096) _))
+loop-holds c = let a = c .args in (omega arith, sym (puts-none (wordIn (a .bank) (a .number) (a .t3) (a .t4)) _))
+
+mul-word-kept : tie.Need-mul-word-kept Inv-loop μ-loop
+mul-word-kept c = search needs
+
+array-read-word-kept : tie.Need-array-read-word-kept Inv-loop μ-loop
+array-read-word-kept c = search needs
+
+mul-word-kept-2 : tie.Need-mul-word-kept-2 Inv-loop μ-loop
+mul-word-kept-2 c = search needs
+
+array-read-word-kept-2 : tie.Need-array-read-word-kept-2 Inv-loop μ-loop
+array-read-word-kept-2 c = search needs
+
+word-kept-requires : tie.Need-word-kept-requires Inv-loop μ-loop
+word-kept-requires c κs = search needs
 
 mul-kept : tie.Need-mul-kept Inv-loop μ-loop
 mul-kept c = search needs
-
-array-read-kept : tie.Need-array-read-kept Inv-loop μ-loop
-array-read-kept c = search needs
-
-mul-kept-2 : tie.Need-mul-kept-2 Inv-loop μ-loop
-mul-kept-2 c = search needs
 
 array-write-kept : tie.Need-array-write-kept Inv-loop μ-loop
 array-write-kept c = search needs
@@ -44,16 +49,16 @@ loop-less c = search needs
 
 loop-again : tie.Need-loop-again Inv-loop μ-loop
 loop-again c =
-    let l = c .before .loop in
+    let l = c .before .before .loop in
     let a = c .before .before .before .args in
-    (omega arith, puts-next (λ i. getD (a .t2) i 0 % 4096) (l .b) _ (l .kept) _ (l .inv .1) refl)
+    (omega arith, puts-next (wordIn (a .bank) (a .number) (a .t3) (a .t4)) (l .b) _ (l .kept) _ (l .inv .1) (c .word-kept .ensures))
 
 returns : tie.Need-returns Inv-loop μ-loop
 returns c =
     let l = c .before .loop in
-    let a = c .before .before .before .args in
-    let e : l .b ≡ a .bank .count = omega arith in
-    rw e at (l .inv .1) ∙ words-stored (a .bank) (a .t2) (omega arith)
+    let e : l .b ≡ 8 = omega arith in
+    let a = c .before .before .args in
+    rw e at (l .inv .1) ∙ puts-whole (wordIn (a .bank) (a .number) (a .t3) (a .t4)) 8 _ refl ∙ words-all (a .bank) (a .number) (a .t3) (a .t4)
 
 pub words-kept-spec : {M : Type 1} → statement M
 words-kept-spec =
@@ -61,11 +66,13 @@ words-kept-spec =
     (tie.spec
     Inv-loop
     μ-loop
-    wide-requires
     loop-holds
+    mul-word-kept
+    array-read-word-kept
+    mul-word-kept-2
+    array-read-word-kept-2
+    word-kept-requires
     mul-kept
-    array-read-kept
-    mul-kept-2
     array-write-kept
     add-b
     loop-less

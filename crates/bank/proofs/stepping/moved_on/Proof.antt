@@ -1,12 +1,19 @@
--- `bank::stepping::moved_on` meets its contract.
--- Assumes nothing.
-use mathlib.Core.Path.{sym, _∙_}
+use mathlib.Core.Path.{_≡_, sym, _∙_}
+use Prim.Native.Nat.{_+_}
 use native.Mathlib.Omega.{arith}
-use Rattle.bank.proofs.stepping.NextRead.{block-below, cell-below}
-use Rattle.bank.proofs.stepping.StepCases.{next-cell, next-block, scan-over}
+use Rattle.bank.proofs.formed.HeldBlocks.{state-bank}
+use Rattle.bank.proofs.stepping.NextRead.{cell-below, block-held}
+use Rattle.bank.proofs.stepping.StepCases.{next-cell, next-block}
 use borrow.Author.Needs.{needs}
 use Rattle.bank.proofs.stepping.moved_on.Statement.{statement}
 use Rattle.bank.proofs.stepping.moved_on.Tie as tie
+use Rattle.bank.proofs.stepping.moved_on.Reads as reads
+use Rattle.bank.proofs.stepping.moved_on.Lts as lts
+use Rattle.numbers.proofs.wide.Reads as wide-reads
+use Rattle.bank.proofs.latching.scan_from.Reads as scan-from-reads
+use Rattle.bank.proofs.stepping.more_cells.Reads as more-cells-reads
+use Rattle.bank.proofs.stepping.outputs_after.Reads as outputs-after-reads
+use Rattle.bank.proofs.stepping.rail_after.Reads as rail-after-reads
 
 outputs-after-requires : tie.Need-outputs-after-requires
 outputs-after-requires c κs = search needs
@@ -26,32 +33,25 @@ rail-after-requires c κs = search needs
 returns : tie.Need-returns
 returns c =
     let s = c .before .before .before .before .before .before in
-    let outputs = c .before .before .before .before .outputs-after .ensures in
-    let more = sym (c .before .before .before .more-cells .ensures) ∙ c .before .before .if1 .taken in
-    next-cell (s .args .bank) (s .args .scan) (s .args .x) outputs more (c .rail-after .ensures)
+    next-cell (s .args .bank) (s .args .scan) (s .args .x) (c .before .before .before .before .outputs-after .ensures) (sym (c .before .before .before .more-cells .ensures) ∙ c .before .before .if1 .taken) (c .rail-after .ensures)
 
-add-if2 : tie.Need-add-if2
-add-if2 c =
+wide-requires : tie.Need-wide-requires
+wide-requires c κs = search needs
+
+add-scan-from : tie.Need-add-scan-from
+add-scan-from c = search needs
+
+scan-from-requires : tie.Need-scan-from-requires
+scan-from-requires c κs =
     let s = c .before .before .before .before .before in
-    let h = block-below (s .args .bank) (s .args .scan) (s .pre .0) (s .pre .1) in
-    record { fits = omega arith }
-
-add-t11 : tie.Need-add-t11
-add-t11 c = search needs
+    let h = block-held (s .args .bank) (s .args .scan) (s .pre .0) (s .pre .1) in
+    (omega (arith, c .wide .ensures .0, h), state-bank (s .args .bank) (s .args .scan) (s .pre .0))
 
 returns-2 : tie.Need-returns-2
 returns-2 c =
-    let s = c .before .before .before .before .before .before .before .before in
-    let outputs = c .before .before .before .before .before .before .outputs-after .ensures in
-    let more = sym (c .before .before .before .before .before .more-cells .ensures) ∙ c .before .before .before .before .if1 .left in
-    next-block (s .args .bank) (s .args .scan) (s .args .x) outputs more (c .before .if2 .taken)
-
-returns-3 : tie.Need-returns-3
-returns-3 c =
-    let s = c .before .before .before .before .before .before .before in
-    let outputs = c .before .before .before .before .before .outputs-after .ensures in
-    let more = sym (c .before .before .before .before .more-cells .ensures) ∙ c .before .before .before .if1 .left in
-    scan-over (s .args .bank) (s .args .scan) (s .args .x) outputs more (c .if2 .left)
+    let s = c .before .before .before .before .before .before in
+    let e : c .before .wide .result + 1 ≡ s .args .scan .block + 1 = omega (arith, c .before .wide .ensures .0) in
+    next-block (s .args .bank) (s .args .scan) (s .args .x) (c .before .before .before .before .outputs-after .ensures) (sym (c .before .before .before .more-cells .ensures) ∙ c .before .before .if1 .left) e (c .scan-from .ensures)
 
 pub moved-on-spec : {M : Type 1} → statement M
 moved-on-spec =
@@ -62,7 +62,7 @@ moved-on-spec =
     add-t7
     rail-after-requires
     returns
-    add-if2
-    add-t11
-    returns-2
-    returns-3)
+    wide-requires
+    add-scan-from
+    scan-from-requires
+    returns-2)

@@ -5,8 +5,7 @@ use Prim.Native.Nat.{_≤_, _-_, _+_}
 use native.Mathlib.Omega.{arith}
 use lib.ListN.{getD}
 use Rattle.laws.specs.Lists.{puts}
-use Rattle.laws.proofs.Puts.{puts-none, puts-next}
-use Rattle.panel_calls.proofs.state_bytes.StateLaws.{stored-whole}
+use Rattle.laws.proofs.Puts.{puts-none, puts-next, puts-whole}
 use borrow.Author.Needs.{needs}
 use Rattle.panel_calls.proofs.state_bytes.outputs_in.Statement.{statement}
 use Rattle.panel_calls.proofs.state_bytes.outputs_in.Tie as tie
@@ -46,7 +45,7 @@ returns c =
     let l = c .before .loop in
     let a = c .before .before .args in
     let e : l .i ≡ 64 = omega arith in
-    rw e at (l .inv .1) ∙ stored-whole 64 (λ k. getD (a .bytes .now) (21 + k) 0)
+    rw e at (l .inv .1) ∙ puts-whole (λ k. getD (a .bytes .now) (21 + k) 0) 64 _ refl
 
 pub outputs-in-spec : {M : Type 1} → statement M
 outputs-in-spec =

@@ -41,13 +41,16 @@ put-words-requires c κs = search needs
 put-outputs-requires : tie.Need-put-outputs-requires
 put-outputs-requires c κs = search needs
 
+element-write-bytes-6 : tie.Need-element-write-bytes-6
+element-write-bytes-6 c = search needs
+
 returns : tie.Need-returns
 returns c =
     let a = c .before .before .before .before .before .before .before .before .before .before .args in
     let s = a .scan in
-    c .put-outputs .ensures ∙ ap (λ (l : List ℕ). putsAt 21 64 (λ i. getD (s .outputs) i 0) l) (c .before .before .before .put-words .ensures)
-    ∙ ap (λ (x : ℕ). putsAt 21 64 (λ i. getD (s .outputs) i 0) (putsAt 5 16 (wordByte (s .words))
-    (set (set (set (set (set (a .bytes .now) 0 x) 1 (s .block)) 2 (s .cell)) 3 (s .rail % 256)) 4 (s .rail / 256)))) (c .before .before .before .before .before .before .before .bit-of .ensures)
+    let words = c .before .before .before .put-words .ensures ∙ ap (λ (x : ℕ). putsAt 5 16 (wordByte (s .words))
+    (set (set (set (set (set (a .bytes .now) 0 x) 1 (s .block)) 2 (s .cell)) 3 (s .rail % 256)) 4 (s .rail / 256))) (c .before .before .before .before .before .before .before .bit-of .ensures) in
+    ap (λ (l : List ℕ). set l 85 (s .number)) (c .put-outputs .ensures ∙ ap (putsAt 21 64 (λ i. getD (s .outputs) i 0)) words)
     ∙ scan-stored s (a .bytes .now)
 
 pub put-scan-spec : {M : Type 1} → statement M
@@ -64,4 +67,5 @@ put-scan-spec =
     element-write-bytes-5
     put-words-requires
     put-outputs-requires
+    element-write-bytes-6
     returns)

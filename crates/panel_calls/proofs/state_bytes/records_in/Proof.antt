@@ -5,8 +5,7 @@ use Prim.Native.Nat.{_≤_, _-_, _+_}
 use native.Mathlib.Omega.{arith}
 use lib.ListN.{getD}
 use Rattle.laws.specs.Lists.{puts}
-use Rattle.laws.proofs.Puts.{puts-none, puts-next}
-use Rattle.panel_calls.proofs.state_bytes.StateLaws.{stored-whole}
+use Rattle.laws.proofs.Puts.{puts-none, puts-next, puts-whole}
 use borrow.Author.Needs.{needs}
 use Rattle.panel_calls.proofs.state_bytes.records_in.Statement.{statement}
 use Rattle.panel_calls.proofs.state_bytes.records_in.Tie as tie
@@ -46,7 +45,7 @@ returns c =
     let l = c .before .loop in
     let a = c .before .before .args in
     let e : l .i ≡ 640 = omega arith in
-    rw e at (l .inv .1) ∙ stored-whole 640 (λ k. getD (a .bytes .now) (11 + k) 0)
+    rw e at (l .inv .1) ∙ puts-whole (λ k. getD (a .bytes .now) (11 + k) 0) 640 _ refl
 
 pub records-in-spec : {M : Type 1} → statement M
 records-in-spec =

@@ -23,6 +23,9 @@ element-copy-out-joined-2 c = search needs
 joined-requires : tie.Need-joined-requires
 joined-requires c κs = search needs
 
+element-copy-out-t21 : tie.Need-element-copy-out-t21
+element-copy-out-t21 c = search needs
+
 words-in-requires : tie.Need-words-in-requires
 words-in-requires c κs = search needs
 
@@ -31,8 +34,8 @@ outputs-in-requires c κs = search needs
 
 returns : tie.Need-returns
 returns c =
-    let a = c .before .before .before .before .before .before .before .before .args in
-    scan-read (a .bytes .now) (c .before .before .joined .ensures) (c .before .words-in .ensures) (c .outputs-in .ensures)
+    let a = c .before .before .before .before .before .before .before .before .before .args in
+    scan-read (a .bytes .now) (c .before .before .before .joined .ensures) (c .before .words-in .ensures) (c .outputs-in .ensures)
 
 pub scan-in-spec : {M : Type 1} → statement M
 scan-in-spec =
@@ -44,6 +47,7 @@ scan-in-spec =
     element-copy-out-joined
     element-copy-out-joined-2
     joined-requires
+    element-copy-out-t21
     words-in-requires
     outputs-in-requires
     returns)

@@ -1,13 +1,12 @@
 -- `panel_calls::state_bytes::words_in` meets its contract.
 -- Assumes nothing.
-use mathlib.Core.Path.{_≡_, sym, _∙_, ap}
+use mathlib.Core.Path.{_≡_, refl, sym, _∙_, ap}
 use Prim.Native.Nat.{ℕ, _≤_, _-_, _+_, _*_}
 use native.Mathlib.Omega.{arith}
 use lib.ListN.{getD}
 use Rattle.laws.specs.Lists.{puts}
-use Rattle.laws.proofs.Puts.{puts-none, puts-next}
+use Rattle.laws.proofs.Puts.{puts-none, puts-next, puts-whole}
 use Rattle.panel_calls.specs.StateBytes.{pairAt}
-use Rattle.panel_calls.proofs.state_bytes.StateLaws.{stored-whole}
 use borrow.Author.Needs.{needs}
 use Rattle.panel_calls.proofs.state_bytes.words_in.Statement.{statement}
 use Rattle.panel_calls.proofs.state_bytes.words_in.Tie as tie
@@ -67,7 +66,7 @@ returns c =
     let l = c .before .loop in
     let a = c .before .before .args in
     let e : l .i ≡ 8 = omega arith in
-    rw e at (l .inv .1) ∙ stored-whole 8 (λ k. pairAt (a .bytes .now) (5 + 2 * k))
+    rw e at (l .inv .1) ∙ puts-whole (λ k. pairAt (a .bytes .now) (5 + 2 * k)) 8 _ refl
 
 pub words-in-spec : {M : Type 1} → statement M
 words-in-spec =

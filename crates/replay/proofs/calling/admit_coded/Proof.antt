@@ -18,26 +18,26 @@ triple-at-requires c κs = search needs
 add-end : tie.Need-add-end
 add-end c = search needs
 
-sub-admit : tie.Need-sub-admit
-sub-admit c = search needs
+sub-admit-every : tie.Need-sub-admit-every
+sub-admit-every c = search needs
 
-part-admit-start : tie.Need-part-admit-start
-part-admit-start c = search needs
+part-admit-every-start : tie.Need-part-admit-every-start
+part-admit-every-start c = search needs
 
-part-admit-end : tie.Need-part-admit-end
-part-admit-end c = search needs
+part-admit-every-end : tie.Need-part-admit-every-end
+part-admit-every-end c = search needs
 
-sub-admit-2 : tie.Need-sub-admit-2
-sub-admit-2 c = search needs
+sub-admit-every-2 : tie.Need-sub-admit-every-2
+sub-admit-every-2 c = search needs
 
-part-admit-start-2 : tie.Need-part-admit-start-2
-part-admit-start-2 c = search needs
+part-admit-every-start-2 : tie.Need-part-admit-every-start-2
+part-admit-every-start-2 c = search needs
 
-part-admit-end-2 : tie.Need-part-admit-end-2
-part-admit-end-2 c = search needs
+part-admit-every-end-2 : tie.Need-part-admit-every-end-2
+part-admit-every-end-2 c = search needs
 
-admit-requires : tie.Need-admit-requires
-admit-requires c κs = search needs
+admit-every-requires : tie.Need-admit-every-requires
+admit-every-requires c κs = search needs
 
 numbered-requires : tie.Need-numbered-requires
 numbered-requires c κs = search needs
@@ -50,8 +50,8 @@ returns c =
     let called = c .before .before .before .before .before in
     let pairs = called .before .before .before .before in
     let a = pairs .before .before .before .before .args in
-    shown-admit (a .bank) (a .scan) (now (a .rows)) (now (a .list)) (pairs .before .pair-at .result) (pairs .triple-at .result)
-    (pairs .before .pair-at .ensures .0) (pairs .triple-at .ensures .0) (c .numbered .ensures _) (called .admit .ensures)
+    shown-admit (a .bank) (a .scan) (now (a .rows)) (now (a .list)) (a .at) (a .period) (a .phase) (pairs .before .pair-at .result) (pairs .triple-at .result)
+    (pairs .before .pair-at .ensures .0) (pairs .triple-at .ensures .0) (c .numbered .ensures _) (called .admit-every .ensures)
 
 pub admit-coded-spec : {M : Type 1} → statement M
 admit-coded-spec =
@@ -61,13 +61,13 @@ admit-coded-spec =
     add-middle
     triple-at-requires
     add-end
-    sub-admit
-    part-admit-start
-    part-admit-end
-    sub-admit-2
-    part-admit-start-2
-    part-admit-end-2
-    admit-requires
+    sub-admit-every
+    part-admit-every-start
+    part-admit-every-end
+    sub-admit-every-2
+    part-admit-every-start-2
+    part-admit-every-end-2
+    admit-every-requires
     numbered-requires
     same-length
     returns)

@@ -52,15 +52,35 @@ returns-4 c =
     let e : getD l 0 0 ≡ 3 = omega arith in
     rw e
 
+pair-at-requires-2 : tie.Need-pair-at-requires-2
+pair-at-requires-2 c κs = search needs
+
+triple-at-requires-2 : tie.Need-triple-at-requires-2
+triple-at-requires-2 c κs = search needs
+
+add-result-3 : tie.Need-add-result-3
+add-result-3 c = search needs
+
+add-result-4 : tie.Need-add-result-4
+add-result-4 c = search needs
+
 returns-5 : tie.Need-returns-5
 unfolding saidSize
 returns-5 c =
-    let x = getD (c .before .before .before .before .before .before .args .list .now) 0 0 in
+    let l = c .before .before .before .before .before .before .before .before .before .args .list .now in
+    let e : getD l 0 0 ≡ 4 = omega arith in
+    rw e (omega arith)
+
+returns-6 : tie.Need-returns-6
+unfolding saidSize
+returns-6 c =
+    let x = getD (c .before .before .before .before .before .before .before .args .list .now) 0 0 in
     rw (
-      ne-eqb x 0 (λ e. omega (arith, c .before .before .before .if1 .left)),
-      ne-eqb x 1 (λ e. omega (arith, c .before .before .if2 .left)),
-      ne-eqb x 2 (λ e. omega (arith, c .before .if3 .left)),
-      ne-eqb x 3 (λ e. omega (arith, c .if4 .left)),
+      ne-eqb x 0 (λ e. omega (arith, c .before .before .before .before .if1 .left)),
+      ne-eqb x 1 (λ e. omega (arith, c .before .before .before .if2 .left)),
+      ne-eqb x 2 (λ e. omega (arith, c .before .before .if3 .left)),
+      ne-eqb x 3 (λ e. omega (arith, c .before .if4 .left)),
+      ne-eqb x 4 (λ e. omega (arith, c .if5 .left)),
     )
 
 pub said-size-spec : {M : Type 1} → statement M
@@ -76,4 +96,9 @@ said-size-spec =
     returns-2
     returns-3
     returns-4
-    returns-5)
+    pair-at-requires-2
+    triple-at-requires-2
+    add-result-3
+    add-result-4
+    returns-5
+    returns-6)

@@ -1,4 +1,4 @@
--- `panel_calls::state_bytes::put_lengths` meets its contract.
+-- `panel_calls::state_bytes::put_eight` meets its contract.
 -- Assumes nothing.
 use mathlib.Core.Path.{_≡_, refl, sym}
 use Prim.Native.Nat.{_≤_, _-_}
@@ -7,17 +7,17 @@ use lib.ListN.{getD}
 use Rattle.laws.specs.Lists.{putsAt}
 use Rattle.laws.proofs.Puts.{putsAt-none, putsAt-next}
 use borrow.Author.Needs.{needs}
-use Rattle.panel_calls.proofs.state_bytes.put_lengths.Statement.{statement}
-use Rattle.panel_calls.proofs.state_bytes.put_lengths.Tie as tie
+use Rattle.panel_calls.proofs.state_bytes.put_eight.Statement.{statement}
+use Rattle.panel_calls.proofs.state_bytes.put_eight.Tie as tie
 
 abbrev Inv-loop : tie.InvT-loop
-Inv-loop lengths bytes₀ i₀ bytes i = (i ≤ 8) × (bytes ≡ putsAt 3 i (λ k. getD lengths k 0) bytes₀)
+Inv-loop eight at bytes₀ i₀ bytes i = (i ≤ 8) × (bytes ≡ putsAt at i (λ k. getD eight k 0) bytes₀)
 
 abbrev μ-loop : tie.MeasureT-loop
-μ-loop lengths bytes₀ i₀ bytes i = 8 - i
+μ-loop eight at bytes₀ i₀ bytes i = 8 - i
 
 loop-holds : tie.Need-loop-holds Inv-loop μ-loop
-loop-holds c = let a = c .args in (omega arith, sym (putsAt-none (λ k. getD (a .lengths .now) k 0) 3 (a .bytes .now)))
+loop-holds c = let a = c .args in (omega arith, sym (putsAt-none (λ k. getD (a .eight .now) k 0) (a .at) (a .bytes .now)))
 
 element-copy-out-bytes : tie.Need-element-copy-out-bytes Inv-loop μ-loop
 element-copy-out-bytes c = search needs
@@ -38,7 +38,7 @@ loop-again : tie.Need-loop-again Inv-loop μ-loop
 loop-again c =
     let l = c .before .before .loop in
     let a = c .before .before .before .args in
-    (omega arith, putsAt-next (λ k. getD (a .lengths .now) k 0) 3 (l .i) (a .bytes .now) (l .bytes) _ (l .inv .1) refl)
+    (omega arith, putsAt-next (λ k. getD (a .eight .now) k 0) (a .at) (l .i) (a .bytes .now) (l .bytes) _ (l .inv .1) refl)
 
 returns : tie.Need-returns Inv-loop μ-loop
 returns c =
@@ -46,8 +46,8 @@ returns c =
     let e : l .i ≡ 8 = omega arith in
     rw e at (l .inv .1)
 
-pub put-lengths-spec : {M : Type 1} → statement M
-put-lengths-spec =
+pub put-eight-spec : {M : Type 1} → statement M
+put-eight-spec =
     tie.close
     (tie.spec
     Inv-loop

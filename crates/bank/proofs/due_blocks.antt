@@ -1,0 +1,2 @@
+-- Laws of `src/due_blocks.rt`.
+pub mod DueTests
