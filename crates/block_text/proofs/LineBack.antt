@@ -16,7 +16,8 @@ use Rattle.laws.proofs.Find.{least-is}
 use Rattle.laws.proofs.Tests.{every-at}
 use Rattle.call_text.specs.Words.{begins, isBytes, bytesOf}
 use Rattle.call_text.specs.Lines.{Line, Text, textOf, admission, spaceIn, admitLine, stepWord, admitWord, lineIn, lineEnd, linesIn}
-use Rattle.call_text.proofs.CallLaws.{and-no, call, admit-good, line-admit, length-admission}
+use Rattle.call_text.proofs.CallLaws.{and-no, call, older-good, admit-older, length-admission}
+use Rattle.call_text.proofs.LineCases.{line-admit}
 use Rattle.call_text.proofs.LineLaws.{lines-none, lines-more, read-whole}
 use Rattle.block_text.specs.BlockLine.{bytesText, blockLine, ReadsBack}
 use Rattle.block_text.proofs.BytesBack.{AreBytes, text-sign, bytes-back, bytes-said}
@@ -62,7 +63,8 @@ module _ (A B : List ℕ) (first : (i : ℕ) → i < length A → 33 ≤ getD A 
   words-back p q =
       let l = A ++ 32 ∷ B in
       let front : take (length A) l ≡ A = take-at A (32 ∷ B) (length A) refl in
-      admit-good l B (length A) (sym space-at) (sym (behind 32 A B)) (and-join (ap isBytes front ∙ p) q)
+      let older = older-good l B (length A) (sym space-at) (sym (behind 32 A B)) (and-join (ap isBytes front ∙ p) q) in
+      admit-older l (ap (λ (x : Line). x .good) older) ∙ older
       ∙ ap (λ (x : List ℕ). call (admission (bytesOf x) (bytesOf B))) front
 
 pub line-admits : (l : List ℕ) → lineIn (admitWord ++ l) ≡ admitLine l

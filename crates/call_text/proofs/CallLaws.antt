@@ -1,25 +1,26 @@
--- Laws of what one line is read as: its cases, how long its call is, and how the parts of a call come to be written.
+-- Laws of what the words of a call are read as, and how the parts of the call come to be written.
 -- Assumes nothing.
 use mathlib.Core.Path.{_≡_, refl, sym, _∙_, ap, ap₂}
-use mathlib.Core.Bool.{Bool, true, false, cond, _&&_, _||_, and-false}
+use mathlib.Core.Bool.{Bool, true, false, _&&_, and-false, and-assoc}
 use mathlib.Core.List.{List, [], _∷_, _++_}
-use Prim.Native.Nat.{ℕ, _+_, _-_, _*_, _/_, _%_, _<_, _≤_}
+use Prim.Native.Nat.{ℕ, _+_, _-_, _*_, _/_, _%_, _<_, _≤_, min}
 use native.Mathlib.Numerals.{add-one}
 use native.Mathlib.Omega.{arith}
 use lib.Dec.{eqb, leb}
 use lib.ListN.{length, getD, set, take, drop, length-set, length-append, length-take, length-drop, drop-of-length-le}
-use lib.Seq.{take-all}
-use borrow.Author.Tests.{eqb-true, eq-eqb, ne-eqb}
+use lib.Seq.{take-all, drop-drop}
+use borrow.Author.Tests.{eqb-true, leb-true, eq-eqb, ne-eqb}
 use Rattle.laws.specs.Tests.{every, least, within}
 use Rattle.laws.specs.Lists.{tab, written, putsAt}
-use Rattle.laws.proofs.Cases.{by-test, cond-yes, cond-no, cond-both, cond-each, and-split}
+use Rattle.laws.proofs.Cases.{by-test, cond-yes, cond-no, and-split}
 use Rattle.laws.proofs.Lists.{length-tab}
 use Rattle.laws.proofs.Filled.{length-written, written-sets, written-none, written-next}
+use Rattle.laws.proofs.Parts.{rest-ends}
 use Rattle.laws.proofs.Puts.{putsAt-sets}
-use Rattle.call_text.specs.Words.{begins, decimal, isNumber, isHex, hexByte, isBytes, bytesOf}
-use Rattle.call_text.specs.Lines.{Line, lineOf, low, high, bankLine, wordPlace, isWordByte, latchLine, spaceIn, admission, admitLine, stepWord, bankWord, latchWord, admitWord, memoryWord, lineIn}
+use Rattle.call_text.specs.Words.{isDigit, decimal, isNumber, isHex, hexByte, isBytes, bytesOf}
+use Rattle.call_text.specs.Lines.{Line, lineOf, low, high, bankLine, wordPlace, isWordByte, latchLine, spaceIn, admission, olderLine, timedAdmission, isByteNumber, timedLine, admitLine}
 use Rattle.laws.proofs.Tests.{within-has}
-use Rattle.call_text.proofs.WordLaws.{bytes-short, bank-long, latch-long, admit-long}
+use Rattle.call_text.proofs.WordLaws.{bytes-short}
 
 -- what is written one after another
 pub set-written : (l : List ℕ) (at v : ℕ) → at < length l → set l at v ≡ written l at (v ∷ [])
@@ -66,6 +67,10 @@ bad-line x old at e = rw e ((refl, refl), sym (written-none old at))
 pub good-line : (x : Line) (code old new : List ℕ) (at n : ℕ) → x ≡ call code → n ≡ length code → new ≡ written old at code
     → ((true ≡ x .good) × (n ≡ length (x .code))) × (new ≡ written old at (x .code))
 good-line x code old new at n e size wrote = rw e ((refl, size), wrote)
+
+pub same-line : (x y : Line) (good : Bool) (n : ℕ) (old new : List ℕ) (at : ℕ) → x ≡ y
+    → ((good ≡ y .good) × (n ≡ length (y .code))) × (new ≡ written old at (y .code)) → ((good ≡ x .good) × (n ≡ length (x .code))) × (new ≡ written old at (x .code))
+same-line x y good n old new at e h = rw e h
 
 -- a bank
 abbrev pub bankCode : ℕ → List ℕ
@@ -160,159 +165,158 @@ unfolding spaceIn
 space-found l n e = e
 
 -- the texts before and after the first space
+abbrev pub firstWord : List ℕ → List ℕ
+firstWord l = take (spaceIn l) l
+
+abbrev pub otherWords : List ℕ → List ℕ
+otherWords l = drop (spaceIn l + 1) l
+
 module _ (l q : List ℕ) (p : ℕ) (e : p ≡ spaceIn l) (rest : q ≡ drop (p + 1) l) where
-  admits : admitLine l ≡ lineOf (isBytes (take p l) && isBytes q) (admission (bytesOf (take p l)) (bytesOf q))
-  unfolding admitLine
-  admits =
+  older : olderLine l ≡ lineOf (isBytes (take p l) && isBytes q) (admission (bytesOf (take p l)) (bytesOf q))
+  unfolding olderLine
+  older =
       ap (λ (k : ℕ). lineOf (isBytes (take k l) && isBytes (drop (k + 1) l)) (admission (bytesOf (take k l)) (bytesOf (drop (k + 1) l)))) (sym e)
       ∙ ap (λ (s : List ℕ). lineOf (isBytes (take p l) && isBytes s) (admission (bytesOf (take p l)) (bytesOf s))) (sym rest)
 
-  pub admit-bad : (isBytes (take p l) && isBytes q) ≡ false → admitLine l ≡ noCall
-  admit-bad h = admits ∙ line-no (isBytes (take p l) && isBytes q) (admission (bytesOf (take p l)) (bytesOf q)) h
+  pub older-bad : (isBytes (take p l) && isBytes q) ≡ false → olderLine l ≡ noCall
+  older-bad h = older ∙ line-no (isBytes (take p l) && isBytes q) (admission (bytesOf (take p l)) (bytesOf q)) h
 
-  pub admit-none : length l ≤ p → admitLine l ≡ noCall
-  admit-none h =
+  pub older-none : length l ≤ p → olderLine l ≡ noCall
+  older-none h =
       let none : q ≡ [] = rest ∙ drop-of-length-le l {i = p + 1} (omega arith) in
-      admit-bad (and-no (isBytes (take p l)) (isBytes q) (ap isBytes none ∙ no-bytes))
+      older-bad (and-no (isBytes (take p l)) (isBytes q) (ap isBytes none ∙ no-bytes))
 
-  pub admit-good : (isBytes (take p l) && isBytes q) ≡ true → admitLine l ≡ call (admission (bytesOf (take p l)) (bytesOf q))
-  admit-good h = admits ∙ line-yes (isBytes (take p l) && isBytes q) (admission (bytesOf (take p l)) (bytesOf q)) h
+  pub older-good : (isBytes (take p l) && isBytes q) ≡ true → olderLine l ≡ call (admission (bytesOf (take p l)) (bytesOf q))
+  older-good h = older ∙ line-yes (isBytes (take p l) && isBytes q) (admission (bytesOf (take p l)) (bytesOf q)) h
 
+pub older-empty : (l : List ℕ) → olderLine l .good ≡ false → olderLine l .code ≡ []
+unfolding olderLine
+older-empty l e = cond-no _ _ [] e
+
+-- a period and a phase
+pub byte-number : (l : List ℕ) → isByteNumber l ≡ true → (isNumber l ≡ true) × (1 ≤ length l) × (decimal l ≤ 255)
+unfolding isByteNumber isNumber
+byte-number l h =
+    let (p, q) = and-split (isNumber l && leb (length l) 3) (leb (decimal l) 255) h in
+    let n = and-split (isNumber l) (leb (length l) 3) p .0 in
+    let some = and-split (within 1 5 (length l)) (every (length l) (isDigit l)) n .0 in
+    (n, within-has 1 5 (length l) some .0, leb-true (decimal l) 255 q)
+
+abbrev pub areTimes : List ℕ → Bool
+areTimes t = isByteNumber (firstWord t) && isByteNumber (otherWords t)
+
+pub times-some : (t : List ℕ) → areTimes t ≡ true → 1 ≤ length t
+times-some t h =
+    let some = byte-number (firstWord t) (and-split (isByteNumber (firstWord t)) (isByteNumber (otherWords t)) h .0) in
+    omega (arith, length-take (spaceIn t) t)
+
+-- with them: the texts of records, rows and times
+abbrev pub timedCode : List ℕ → List ℕ → List ℕ → List ℕ
+timedCode r q t = timedAdmission (bytesOf r) (bytesOf q) (decimal (firstWord t)) (decimal (otherWords t))
+
+pub timed-of : (l : List ℕ)
+    → timedLine l
+    ≡ lineOf (isBytes (firstWord l) && isBytes (firstWord (otherWords l)) && areTimes (otherWords (otherWords l)))
+    (timedCode (firstWord l) (firstWord (otherWords l)) (otherWords (otherWords l)))
+unfolding timedLine
+timed-of l =
+    let t = otherWords (otherWords l) in
+    ap (λ (b : Bool). lineOf b (timedCode (firstWord l) (firstWord (otherWords l)) t))
+    (and-assoc (isBytes (firstWord l) && isBytes (firstWord (otherWords l))) (isByteNumber (firstWord t)) (isByteNumber (otherWords t)))
+
+module _ (l r q t : List ℕ) (er : r ≡ firstWord l) (eq : q ≡ firstWord (otherWords l)) (et : t ≡ otherWords (otherWords l)) where
+  timed : timedLine l ≡ lineOf (isBytes r && isBytes q && areTimes t) (timedCode r q t)
+  timed = timed-of l ∙ rw (er, eq, et) refl
+
+  pub timed-bad : (isBytes r && isBytes q && areTimes t) ≡ false → timedLine l ≡ noCall
+  timed-bad h = timed ∙ line-no (isBytes r && isBytes q && areTimes t) (timedCode r q t) h
+
+  pub timed-good : (isBytes r && isBytes q && areTimes t) ≡ true → timedLine l ≡ call (timedCode r q t)
+  timed-good h = timed ∙ line-yes (isBytes r && isBytes q && areTimes t) (timedCode r q t) h
+
+-- the texts as they are found: the first space at p, the rows from place a on, the space after them k further, the times from place b on
+pub words-found : (l : List ℕ) (p a k b : ℕ) → p ≡ spaceIn l → a ≡ min (p + 1) (length l) → k ≡ spaceIn (take (length l - a) (drop a l))
+    → b ≡ min (a + k + 1) (length l)
+    → (take p l ≡ firstWord l) × (take (a + k - a) (drop a l) ≡ firstWord (otherWords l)) × (take (length l - b) (drop b l) ≡ otherWords (otherWords l))
+words-found l p a k b ep ea ek eb =
+    let rest : take (length l - a) (drop a l) ≡ otherWords l = rest-ends (p + 1) a l ea ∙ ap (λ (n : ℕ). drop (n + 1) l) ep in
+    let after : drop a l ≡ otherWords l = sym (rest-all a l) ∙ rest in
+    let space : k ≡ spaceIn (otherWords l) = ek ∙ ap spaceIn rest in
+    let long : a + k - a ≡ k = omega arith in
+    let place : a + k + 1 ≡ a + (k + 1) = omega arith in (
+      ap (λ (n : ℕ). take n l) ep,
+      ap (λ (n : ℕ). take n (drop a l)) long ∙ ap₂ (λ (n : ℕ) (s : List ℕ). take n s) space after,
+      rest-ends (a + k + 1) b l eb ∙ ap (λ (n : ℕ). drop n l) place ∙ sym (drop-drop (k + 1) a l) ∙ ap₂ (λ (n : ℕ) (s : List ℕ). drop (n + 1) s) space after,
+    )
+
+pub timed-empty : (l : List ℕ) → timedLine l .good ≡ false → timedLine l .code ≡ []
+unfolding timedLine
+timed-empty l e = cond-no _ _ [] e
+
+-- the older line comes first
+pub admit-older : (l : List ℕ) → olderLine l .good ≡ true → admitLine l ≡ olderLine l
+unfolding admitLine
+admit-older l e = cond-yes (olderLine l .good) _ _ e
+
+pub admit-timed : (l : List ℕ) → olderLine l .good ≡ false → admitLine l ≡ timedLine l
+unfolding admitLine
+admit-timed l e = cond-no (olderLine l .good) _ _ e
+
+-- how an admission is written: the numbers of bytes, the bytes, the whole
+abbrev pub sizes : ℕ → ℕ → ℕ → List ℕ
+sizes k m n = k ∷ low m ∷ high m ∷ low n ∷ high n ∷ 0 ∷ []
+
+pub put-sizes : (c₀ c₁ c₂ : List ℕ) (at k m n : ℕ) → at + 6 ≤ length c₀ → c₁ ≡ written (set c₀ at k) (at + 1) (m % 256 ∷ m / 256 ∷ [])
+    → c₂ ≡ written c₁ (at + 3) (n % 256 ∷ n / 256 ∷ []) → set c₂ (at + 5) 0 ≡ written c₀ at (sizes k m n)
+put-sizes c₀ c₁ c₂ at k m n h w₁ w₂ =
+    let numbers : List ℕ = k ∷ low m ∷ high m ∷ low n ∷ high n ∷ [] in
+    let s₁ = written-on c₀ (set c₀ at k) c₁ (k ∷ []) (low m ∷ high m ∷ []) at (at + 1) refl (omega arith) (set-written c₀ at k (omega arith)) w₁ in
+    let s₂ = written-on c₀ c₁ c₂ (k ∷ low m ∷ high m ∷ []) (low n ∷ high n ∷ []) at (at + 3) refl (omega arith) s₁ w₂ in
+    let long : length c₂ ≡ length c₀ = ap length s₂ ∙ length-written c₀ at numbers (omega arith) in
+    written-on c₀ c₂ (set c₂ (at + 5) 0) numbers (0 ∷ []) at (at + 5) refl (omega arith) s₂ (set-written c₂ (at + 5) 0 (omega arith))
+
+module _ (r q : List ℕ) where
+  pub put-parts : (c₀ c₁ c₂ : List ℕ) (at : ℕ) → at + length r / 2 + length q / 2 ≤ length c₀ → c₁ ≡ putsAt at (length r / 2) (λ i. hexByte r (2 * i)) c₀
+      → c₂ ≡ putsAt (at + length r / 2) (length q / 2) (λ i. hexByte q (2 * i)) c₁ → c₂ ≡ written c₀ at (bytesOf r ++ bytesOf q)
+  unfolding bytesOf
+  put-parts c₀ c₁ c₂ at h w₁ w₂ =
+      let f : ℕ → ℕ = λ i. hexByte r (2 * i) in
+      let g : ℕ → ℕ = λ i. hexByte q (2 * i) in
+      let m = length r / 2 in
+      let n = length q / 2 in
+      let lf = length-tab f m in
+      let s = w₁ ∙ puts-written f at m c₀ (omega arith) in
+      let long : length c₁ ≡ length c₀ = ap length s ∙ length-written c₀ at (tab m f) (omega arith) in
+      written-on c₀ c₁ c₂ (tab m f) (tab n g) at (at + m) (omega arith) (omega arith) s (w₂ ∙ puts-written g (at + m) n c₁ (omega arith))
+
+  -- as many bytes as half the signs
+  sized : (c : List ℕ) (at k : ℕ) (rest : List ℕ) → written c at (sizes k (length r / 2) (length q / 2) ++ rest) ≡ written c at (sizes k (length (bytesOf r)) (length (bytesOf q)) ++ rest)
+  sized c at k rest = ap₂ (λ (m n : ℕ). written c at (sizes k m n ++ rest)) (sym (length-bytes r)) (sym (length-bytes q))
+
+  module _ (c₀ c₁ c₂ : List ℕ) (at : ℕ) where
+    pub put-admission : at + 6 ≤ length c₀ → c₁ ≡ written c₀ at (sizes 1 (length r / 2) (length q / 2))
+        → c₂ ≡ written c₁ (at + 6) (bytesOf r ++ bytesOf q) → c₂ ≡ written c₀ at (admission (bytesOf r) (bytesOf q))
+    put-admission h w₁ w₂ =
+        let head = sizes 1 (length r / 2) (length q / 2) in
+        written-on c₀ c₁ c₂ head (bytesOf r ++ bytesOf q) at (at + 6) refl (omega arith) w₁ w₂ ∙ sized c₀ at 1 (bytesOf r ++ bytesOf q)
+
+    pub put-timed : (period phase : ℕ) → at + 8 ≤ length c₀ → c₁ ≡ written c₀ at (sizes 4 (length r / 2) (length q / 2))
+        → c₂ ≡ written (set (set c₁ (at + 6) period) (at + 7) phase) (at + 8) (bytesOf r ++ bytesOf q)
+        → c₂ ≡ written c₀ at (timedAdmission (bytesOf r) (bytesOf q) period phase)
+    put-timed period phase h w₁ w₂ =
+        let head = sizes 4 (length r / 2) (length q / 2) in
+        let c = set c₁ (at + 6) period in
+        let d = set c (at + 7) phase in
+        let long₁ : length c₁ ≡ length c₀ = ap length w₁ ∙ length-written c₀ at head (omega arith) in
+        let long : length c ≡ length c₀ = length-set c₁ (at + 6) period ∙ long₁ in
+        let s = written-on c₀ c₁ c head (period ∷ []) at (at + 6) refl (omega arith) w₁ (set-written c₁ (at + 6) period (omega arith)) in
+        let z = written-on c₀ c d (head ++ (period ∷ [])) (phase ∷ []) at (at + 7) refl (omega arith) s (set-written c (at + 7) phase (omega arith)) in
+        written-on c₀ d c₂ (head ++ (period ∷ phase ∷ [])) (bytesOf r ++ bytesOf q) at (at + 8) refl (omega arith) z w₂
+        ∙ sized c₀ at 4 (period ∷ phase ∷ (bytesOf r ++ bytesOf q))
+
+-- how long it is
 pub length-admission : (r q : List ℕ) → length (admission r q) ≡ 6 + length r + length q
 length-admission r q = omega (arith, length-append r q)
 
-pub put-admission : (r q c₀ c₁ c₂ c₃ c₄ : List ℕ) (at m n : ℕ) → m ≡ length r / 2 → n ≡ length q / 2 → at + 6 + m + n ≤ length c₀
-    → c₁ ≡ written (set c₀ at 1) (at + 1) (m % 256 ∷ m / 256 ∷ []) → c₂ ≡ written c₁ (at + 3) (n % 256 ∷ n / 256 ∷ [])
-    → c₃ ≡ putsAt (at + 6) m (λ i. hexByte r (2 * i)) (set c₂ (at + 5) 0) → c₄ ≡ putsAt (at + 6 + m) n (λ i. hexByte q (2 * i)) c₃
-    → c₄ ≡ written c₀ at (admission (bytesOf r) (bytesOf q))
-unfolding bytesOf
-put-admission r q c₀ c₁ c₂ c₃ c₄ at m n em en h w₁ w₂ w₃ w₄ =
-    let f : ℕ → ℕ = λ i. hexByte r (2 * i) in
-    let g : ℕ → ℕ = λ i. hexByte q (2 * i) in
-    let numbers : List ℕ = 1 ∷ low m ∷ high m ∷ low n ∷ high n ∷ [] in
-    let head : List ℕ = 1 ∷ low m ∷ high m ∷ low n ∷ high n ∷ 0 ∷ [] in
-    let lf = length-tab f m in
-    let s₁ = written-on c₀ (set c₀ at 1) c₁ (1 ∷ []) (low m ∷ high m ∷ []) at (at + 1) refl (omega arith) (set-written c₀ at 1 (omega arith)) w₁ in
-    let s₂ = written-on c₀ c₁ c₂ (1 ∷ low m ∷ high m ∷ []) (low n ∷ high n ∷ []) at (at + 3) refl (omega arith) s₁ w₂ in
-    let long₂ : length c₂ ≡ length c₀ = ap length s₂ ∙ length-written c₀ at numbers (omega arith) in
-    let s₀ = written-on c₀ c₂ (set c₂ (at + 5) 0) numbers (0 ∷ []) at (at + 5) refl (omega arith) s₂ (set-written c₂ (at + 5) 0 (omega arith)) in
-    let long₀ : length (set c₂ (at + 5) 0) ≡ length c₀ = length-set c₂ (at + 5) 0 ∙ long₂ in
-    let s₃ = written-on c₀ (set c₂ (at + 5) 0) c₃ head (tab m f) at (at + 6) refl (omega arith) s₀ (w₃ ∙ puts-written f (at + 6) m (set c₂ (at + 5) 0) (omega arith)) in
-    let long₃ : length c₃ ≡ length c₀ = ap length s₃ ∙ length-written c₀ at (head ++ tab m f) (omega arith) in
-    let s₄ =
-    written-on c₀ c₃ c₄ (head ++ tab m f) (tab n g) at (at + 6 + m) (omega arith) (omega arith) s₃ (w₄ ∙ puts-written g (at + 6 + m) n c₃ (omega arith)) in
-    s₄
-    ∙ ap₂ (λ (x y : ℕ). written c₀ at (1 ∷ low x ∷ high x ∷ low y ∷ high y ∷ 0 ∷ (tab m f ++ tab n g))) (em ∙ sym (length-bytes r)) (en ∙ sym (length-bytes q))
-    ∙ ap₂ (λ (x y : ℕ). written c₀ at (1 ∷ low (length (bytesOf r)) ∷ high (length (bytesOf r)) ∷ low (length (bytesOf q)) ∷ high (length (bytesOf q)) ∷ 0 ∷ (tab x f ++ tab y g))) em en
-
--- the cases of a line
-abbrev pub passed : List ℕ → Bool
-passed l = eqb (length l) 0 || eqb (getD l 0 0) 35
-
-abbrev pub isStep : List ℕ → Bool
-isStep l = eqb (length l) 4 && begins stepWord l
-
-module _ (l : List ℕ) where
-  pub line-passed : passed l ≡ true → lineIn l ≡ call []
-  unfolding lineIn
-  line-passed p = cond-yes (passed l) _ _ p
-
-  pub line-step : passed l ≡ false → isStep l ≡ true → lineIn l ≡ call (3 ∷ [])
-  unfolding lineIn
-  line-step p s = cond-no (passed l) _ _ p ∙ cond-yes (isStep l) _ _ s
-
-  pub line-bank : passed l ≡ false → isStep l ≡ false → begins bankWord l ≡ true → lineIn l ≡ bankLine (drop 5 l)
-  unfolding lineIn
-  line-bank p s b = cond-no (passed l) _ _ p ∙ cond-no (isStep l) _ _ s ∙ cond-yes (begins bankWord l) _ _ b
-
-  pub line-latch : passed l ≡ false → isStep l ≡ false → begins bankWord l ≡ false → begins latchWord l ≡ true → lineIn l ≡ latchLine (drop 5 l)
-  unfolding lineIn
-  line-latch p s b t = cond-no (passed l) _ _ p ∙ cond-no (isStep l) _ _ s ∙ cond-no (begins bankWord l) _ _ b ∙ cond-yes (begins latchWord l) _ _ t
-
-  pub line-admit : passed l ≡ false → isStep l ≡ false → begins bankWord l ≡ false → begins latchWord l ≡ false → begins admitWord l ≡ true
-      → lineIn l ≡ admitLine (drop 6 l)
-  unfolding lineIn
-  line-admit p s b t a =
-      cond-no (passed l) _ _ p ∙ cond-no (isStep l) _ _ s ∙ cond-no (begins bankWord l) _ _ b ∙ cond-no (begins latchWord l) _ _ t
-      ∙ cond-yes (begins admitWord l) _ _ a
-
-  pub line-other : passed l ≡ false → isStep l ≡ false → begins bankWord l ≡ false → begins latchWord l ≡ false → begins admitWord l ≡ false
-      → lineIn l ≡ noCall
-  unfolding lineIn
-  line-other p s b t a =
-      cond-no (passed l) _ _ p ∙ cond-no (isStep l) _ _ s ∙ cond-no (begins bankWord l) _ _ b ∙ cond-no (begins latchWord l) _ _ t
-      ∙ cond-no (begins admitWord l) _ _ a
-
--- a call is no longer than its line
-bank-size : (l : List ℕ) → length (bankLine l .code) ≤ length l + 4
-unfolding bankLine
-bank-size l = cond-each (λ (c : List ℕ). length c ≤ length l + 4) (isNumber l && leb (decimal l) 65535) (λ e. omega arith) (λ e. omega arith)
-
-latch-size : (l : List ℕ) → length (latchLine l .code) ≤ length l + 4
-unfolding latchLine
-latch-size l =
-    cond-each (λ (c : List ℕ). length c ≤ length l + 4) (isLatch l) (λ e. let long = latch-length l e in omega (arith, length-tab (wordByte l) 16))
-    (λ e. omega arith)
-
-admit-size : (l : List ℕ) → length (admitLine l .code) ≤ length l + 4
-unfolding admitLine
-admit-size l =
-    let p = spaceIn l in
-    cond-each (λ (c : List ℕ). length c ≤ length l + 4) (isBytes (take p l) && isBytes (drop (p + 1) l))
-    (λ e.
-    let (r, q) = and-split (isBytes (take p l)) (isBytes (drop (p + 1) l)) e in
-    let fr = bytes-fit (take p l) r in
-    let fq = bytes-fit (drop (p + 1) l) q in
-    omega (arith, length-append (bytesOf (take p l)) (bytesOf (drop (p + 1) l)), length-bytes (take p l), length-bytes (drop (p + 1) l), length-take p l, length-drop (p + 1) l))
-    (λ e. omega arith)
-
-pub line-size : (l : List ℕ) → length (lineIn l .code) ≤ length l
-unfolding lineIn
-line-size l =
-    cond-each fits (passed l) (λ p. omega arith)
-    (λ p.
-    cond-each fits (isStep l) (λ s. let four = eqb-true (length l) 4 (and-split (eqb (length l) 4) (begins stepWord l) s .0) in omega arith)
-    (λ s.
-    cond-each fits (begins bankWord l) (λ b. let long : 5 ≤ length l = bank-long l b in omega (arith, bank-size (drop 5 l), length-drop 5 l))
-    (λ b.
-    cond-each fits (begins latchWord l) (λ t. let long : 5 ≤ length l = latch-long l t in omega (arith, latch-size (drop 5 l), length-drop 5 l))
-    (λ t.
-    cond-each fits (begins admitWord l) (λ a. let long : 6 ≤ length l = admit-long l a in omega (arith, admit-size (drop 6 l), length-drop 6 l))
-    (λ a. omega arith)))))
-  where
-    fits : Line → Type 0
-    fits x = length (x .code) ≤ length l
-
--- a line that can't be read has none
-pub bad-empty : (l : List ℕ) → lineIn l .good ≡ false → lineIn l .code ≡ []
-unfolding lineIn bankLine latchLine admitLine
-bad-empty l =
-    cond-both empty (passed l) (of true [])
-    (cond-both empty (isStep l) (of true (3 ∷ []))
-    (cond-both empty (begins bankWord l) (of _ _)
-    (cond-both empty (begins latchWord l) (of _ _) (cond-both empty (begins admitWord l) (of _ _) (of false [])))))
-  where
-    empty : Line → Type 0
-    empty x = x .good ≡ false → x .code ≡ []
-
-    of : (b : Bool) (code : List ℕ) → empty (lineOf b code)
-    of b code e = cond-no b code [] e
-
--- a line read as one of these is read so as a whole
-pub line-read : (l : List ℕ) (x : Line) (good : Bool) (n : ℕ) (old new : List ℕ) (at : ℕ) → lineIn l ≡ x
-    → ((good ≡ x .good) × (n ≡ length (x .code))) × (new ≡ written old at (x .code))
-    → ((good ≡ lineIn l .good) × (n ≡ length (lineIn l .code)) × (n ≤ length l)) × (new ≡ written old at (lineIn l .code))
-line-read l x good n old new at e h =
-    let g : good ≡ lineIn l .good = h .0 .0 ∙ ap (λ (y : Line). y .good) (sym e) in
-    let s : n ≡ length (lineIn l .code) = h .0 .1 ∙ ap (λ (y : Line). length (y .code)) (sym e) in
-    ((g, s, omega (arith, line-size l)), h .1 ∙ ap (λ (y : Line). written old at (y .code)) (sym e))
-
--- the row memory that a line says
-abbrev pub saysMemory : List ℕ → Bool
-saysMemory l = begins memoryWord l && isNumber (drop 7 l) && leb (decimal (drop 7 l)) 65536
-
-pub memory-bad : (l : List ℕ) → saysMemory l ≡ false → 65537 ≡ cond (saysMemory l) (decimal (drop 7 l)) 65537
-memory-bad l e = sym (cond-no (saysMemory l) (decimal (drop 7 l)) 65537 e)
-
-pub memory-good : (l : List ℕ) (n : ℕ) → n ≡ decimal (drop 7 l) → saysMemory l ≡ true → n ≡ cond (saysMemory l) (decimal (drop 7 l)) 65537
-memory-good l n d e = d ∙ sym (cond-yes (saysMemory l) (decimal (drop 7 l)) 65537 e)
+pub length-timed : (r q : List ℕ) (period phase : ℕ) → length (timedAdmission r q period phase) ≡ 8 + length r + length q
+length-timed r q period phase = omega (arith, length-append r q)

@@ -16,7 +16,8 @@ use Rattle.laws.proofs.Find.{least-le}
 use Rattle.laws.proofs.Filled.{length-written, written-none, written-next}
 use Rattle.call_text.specs.Words.{decimal}
 use Rattle.call_text.specs.Lines.{Line, Text, textOf, lineIn, lineEnd, linesTo, linesIn, memoryIn, readText}
-use Rattle.call_text.proofs.CallLaws.{rest-all, line-size, bad-empty, saysMemory}
+use Rattle.call_text.proofs.CallLaws.{rest-all}
+use Rattle.call_text.proofs.LineCases.{line-size, bad-empty, saysMemory}
 
 -- line after line
 abbrev pub noLines : Text

@@ -1,6 +1,7 @@
 -- A list of calls as text, one call a line:
 --   bank S                        makes a bank with S, one to five digits, at most 65,535
 --   admit RECORDS ROWS            admits a block; its bytes in base 16, two digits each, - for none
+--   admit RECORDS ROWS PERIOD PHASE  the same with a period and a phase, one to three digits each, at most 255
 --   latch W0 W1 W2 W3 W4 W5 W6 W7 latches eight words, each four digits in base 16
 --   step                          steps
 -- Words are parted by one space. Empty lines and lines that begin with # are passed over. The lines stand after one that says how many bytes of
@@ -53,12 +54,37 @@ spaceIn l = least (length l) (λ i. eqb (getD l i 0) 32)
 abbrev pub admission : List ℕ → List ℕ → List ℕ
 admission R Q = 1 ∷ low (length R) ∷ high (length R) ∷ low (length Q) ∷ high (length Q) ∷ 0 ∷ (R ++ Q)
 
-unfoldable pub admitLine : List ℕ → Line
-admitLine l =
+-- the older line, without period and phase
+unfoldable pub olderLine : List ℕ → Line
+olderLine l =
     let p = spaceIn l in
     let R = bytesOf (take p l) in
     let Q = bytesOf (drop (p + 1) l) in
     lineOf (isBytes (take p l) && isBytes (drop (p + 1) l)) (admission R Q)
+
+-- an admission with a period and a phase, which have a byte each
+abbrev pub timedAdmission : List ℕ → List ℕ → ℕ → ℕ → List ℕ
+timedAdmission R Q period phase =
+    4 ∷ low (length R) ∷ high (length R) ∷ low (length Q) ∷ high (length Q) ∷ 0 ∷ period ∷ phase ∷ (R ++ Q)
+
+-- one to three digits, at most 255
+unfoldable pub isByteNumber : List ℕ → Bool
+isByteNumber l = isNumber l && leb (length l) 3 && leb (decimal l) 255
+
+unfoldable pub timedLine : List ℕ → Line
+timedLine l =
+    let p = spaceIn l in
+    let rest = drop (p + 1) l in
+    let q = spaceIn rest in
+    let times = drop (q + 1) rest in
+    let r = spaceIn times in
+    let period = take r times in
+    let phase = drop (r + 1) times in
+    lineOf (isBytes (take p l) && isBytes (take q rest) && isByteNumber period && isByteNumber phase)
+    (timedAdmission (bytesOf (take p l)) (bytesOf (take q rest)) (decimal period) (decimal phase))
+
+unfoldable pub admitLine : List ℕ → Line
+admitLine l = let older = olderLine l in cond (older .good) older (timedLine l)
 
 -- "step", "bank ", "latch", "admit ", "memory "
 abbrev pub stepWord : List ℕ

@@ -1,4 +1,5 @@
 // A list of calls as text, tidied and read into its bytes. Also a line that says which inputs are known.
+mod admissions;
 mod blanks;
 mod known;
 mod lines;

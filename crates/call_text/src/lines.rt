@@ -1,23 +1,22 @@
 // Lines of calls.
 ghost use mathlib.Core.Path.{_≡_};
 ghost use mathlib.Core.Bool.{true, cond, _&&_};
-ghost use mathlib.Core.List.{[], _∷_, _++_};
+ghost use mathlib.Core.List.{[], _∷_};
 ghost use Prim.Native.Nat.{_≤_, _<_, _+_, _*_, _/_, _%_, _^_};
 ghost use lib.Dec.{eqb, leb};
 ghost use lib.ListN.{length, getD, drop};
 ghost use Rattle.laws.specs.Tests.{every};
 ghost use Rattle.laws.specs.Lists.{written, putsAt};
-ghost use Rattle.call_text.specs.Words.{begins, decimal, isNumber, hexByte, isBytes, bytesOf};
-ghost use Rattle.call_text.specs.Lines.{low, high, bankLine, wordPlace, isWordByte, latchLine, admitLine, memoryWord, lineIn, linesIn};
+ghost use Rattle.call_text.specs.Words.{begins, decimal, isNumber, hexByte};
+ghost use Rattle.call_text.specs.Lines.{bankLine, wordPlace, isWordByte, latchLine, memoryWord, lineIn, linesIn};
 use crate::TextRead;
+use crate::admissions::admit_line;
 use crate::words::begins;
 use crate::words::byte_in;
 use crate::words::hex_byte;
-use crate::words::is_bytes;
 use crate::words::is_hex;
 use crate::words::is_number;
 use crate::words::number;
-use crate::words::put_bytes;
 use numbers::byte_at;
 
 // A line: whether it can be read, and how many bytes its call has.
@@ -45,7 +44,7 @@ pub fn memory_line(line: &[u8]) -> usize
 }
 
 // A number in two bytes, the low byte first.
-fn put_pair(x: usize, at: usize, code: &mut [u8])
+pub fn put_pair(x: usize, at: usize, code: &mut [u8])
     requires { ⌜ (x < 65536) × (at + 2 ≤ length (now code)) ⌝ }
     ensures { λ _. ⌜ now (code .exit) ≡ written (now (code .entry)) at (x % 256 ∷ x / 256 ∷ []) ⌝ }
 {
@@ -152,50 +151,6 @@ fn latch_line(rest: &[u8], at: usize, code: &mut [u8]) -> LineRead
         good: true,
         size: 17,
     }
-}
-
-// The call of an admission, its texts of bytes given.
-fn put_admission(records: &[u8], rows: &[u8], at: usize, code: &mut [u8]) -> usize
-    requires { ⌜ (isBytes (now records) ≡ true) × (isBytes (now rows) ≡ true) × (at + length (now records) + length (now rows) + 4 ≤ length (now code)) ⌝ }
-    ensures { λ r. ⌜ r ≡ 6 + length (bytesOf (now (records .entry))) + length (bytesOf (now (rows .entry))) ⌝ }
-    ensures { λ _.
-        ⌜ now (code .exit)
-        ≡ written (now (code .entry)) at
-        (1 ∷ low (length (bytesOf (now (records .entry)))) ∷ high (length (bytesOf (now (records .entry))))
-        ∷ low (length (bytesOf (now (rows .entry)))) ∷ high (length (bytesOf (now (rows .entry)))) ∷ 0
-        ∷ (bytesOf (now (records .entry)) ++ bytesOf (now (rows .entry)))) ⌝ }
-{
-    let r = records.len() / 2;
-    let q = rows.len() / 2;
-    code[at] = 1;
-    put_pair(r, at + 1, code);
-    put_pair(q, at + 3, code);
-    code[at + 5] = 0;
-    put_bytes(records, at + 6, code);
-    put_bytes(rows, at + 6 + r, code);
-    6 + r + q
-}
-
-fn admit_line(rest: &[u8], at: usize, code: &mut [u8]) -> LineRead
-    requires { ⌜ at + length (now rest) + 4 ≤ length (now code) ⌝ }
-    ensures { λ r. ⌜ (r .good ≡ admitLine (now (rest .entry)) .good) × (r .size ≡ length (admitLine (now (rest .entry)) .code)) ⌝ }
-    ensures { λ _. ⌜ now (code .exit) ≡ written (now (code .entry)) at (admitLine (now (rest .entry)) .code) ⌝ }
-{
-    let p = byte_in(rest, 32);
-    if rest.len() <= p {
-        return LineRead {
-            good: false,
-            size: 0,
-        };
-    }
-    if !(is_bytes(&rest[..p]) & is_bytes(&rest[p + 1..])) {
-        return LineRead {
-            good: false,
-            size: 0,
-        };
-    }
-    let size = put_admission(&rest[..p], &rest[p + 1..], at, code);
-    LineRead { good: true, size }
 }
 
 // Reads a line and writes its call at the places of code from at on; on a line that can't be read nothing changes.

@@ -12,7 +12,8 @@ use Rattle.laws.proofs.Cases.{and-left-no, and-join}
 use Rattle.call_text.specs.Words.{begins, decimal, isNumber}
 use Rattle.call_text.specs.Lines.{memoryWord}
 use Rattle.call_text.proofs.WordLaws.{memory-long}
-use Rattle.call_text.proofs.CallLaws.{rest-all, and-no, memory-bad, memory-good}
+use Rattle.call_text.proofs.CallLaws.{rest-all, and-no}
+use Rattle.call_text.proofs.LineCases.{memory-bad, memory-good}
 use borrow.Author.Needs.{needs}
 use Rattle.call_text.proofs.lines.memory_line.Statement.{statement}
 use Rattle.call_text.proofs.lines.memory_line.Tie as tie

@@ -14,7 +14,8 @@ use Rattle.laws.proofs.Filled.{written-none}
 use Rattle.call_text.specs.Words.{begins}
 use Rattle.call_text.specs.Lines.{bankLine, latchLine, admitLine, stepWord, bankWord, latchWord, admitWord}
 use Rattle.call_text.proofs.WordLaws.{bank-long, latch-long, admit-long}
-use Rattle.call_text.proofs.CallLaws.{set-written, rest-all, rest-long, noCall, call, passed, isStep, line-passed, line-step, line-bank, line-latch, line-admit, line-other, line-read}
+use Rattle.call_text.proofs.CallLaws.{set-written, rest-all, rest-long, noCall, call}
+use Rattle.call_text.proofs.LineCases.{passed, isStep, line-passed, line-step, line-bank, line-latch, line-admit, line-other, line-read}
 use borrow.Author.Needs.{needs}
 use Rattle.call_text.proofs.lines.read_line.Statement.{statement}
 use Rattle.call_text.proofs.lines.read_line.Tie as tie

@@ -1,4 +1,4 @@
--- `call_text::lines::admit_line` meets its contract.
+-- `admissions::older_line` meets its contract.
 -- Assumes nothing.
 use mathlib.Core.Path.{sym, _∙_, ap₂}
 use mathlib.Core.Bool.{_&&_}
@@ -11,10 +11,10 @@ use borrow.Author.Tests.{not-true, not-false}
 use Rattle.laws.proofs.Cases.{and-split}
 use Rattle.call_text.specs.Words.{isBytes, bytesOf}
 use Rattle.call_text.specs.Lines.{admission}
-use Rattle.call_text.proofs.CallLaws.{rest-all, rest-long, bad-line, good-line, space-found, admit-none, admit-bad, admit-good, length-admission}
+use Rattle.call_text.proofs.CallLaws.{rest-all, rest-long, bad-line, good-line, bytes-fit, space-found, older-none, older-bad, older-good}
 use borrow.Author.Needs.{needs}
-use Rattle.call_text.proofs.lines.admit_line.Statement.{statement}
-use Rattle.call_text.proofs.lines.admit_line.Tie as tie
+use Rattle.call_text.proofs.admissions.older_line.Statement.{statement}
+use Rattle.call_text.proofs.admissions.older_line.Tie as tie
 
 byte-in-requires : tie.Need-byte-in-requires
 byte-in-requires c κs = search needs
@@ -24,7 +24,7 @@ returns c =
     let a = c .before .before .before .before .args in
     let l = now (a .rest) in
     let p = c .before .byte-in .result in
-    bad-line _ (now (a .code)) (a .at) (admit-none l (take (length l - (p + 1)) (drop (p + 1) l)) p (space-found l p (c .before .byte-in .ensures .0)) (rest-all (p + 1) l) (c .if1 .taken))
+    bad-line _ (now (a .code)) (a .at) (older-none l (take (length l - (p + 1)) (drop (p + 1) l)) p (space-found l p (c .before .byte-in .ensures .0)) (rest-all (p + 1) l) (c .if1 .taken))
 
 slice-aggregate-is-bytes : tie.Need-slice-aggregate-is-bytes
 slice-aggregate-is-bytes c = sym (length-take-le (c .before .before .byte-in .result) (now (c .before .before .before .before .before .args .rest)) (c .before .before .byte-in .ensures .1))
@@ -54,7 +54,7 @@ returns-2 c =
     let p = c .before .before .before .before .before .before .byte-in .result in
     let q = take (length l - (p + 1)) (drop (p + 1) l) in
     let test = ap₂ _&&_ (c .before .before .before .is-bytes .ensures) (c .before .is-bytes2 .ensures) in
-    bad-line _ (now (a .code)) (a .at) (admit-bad l q p (space-found l p (c .before .before .before .before .before .before .byte-in .ensures .0)) (rest-all (p + 1) l) (sym test ∙ not-true _ (c .if2 .taken)))
+    bad-line _ (now (a .code)) (a .at) (older-bad l q p (space-found l p (c .before .before .before .before .before .before .byte-in .ensures .0)) (rest-all (p + 1) l) (sym test ∙ not-true _ (c .if2 .taken)))
 
 slice-aggregate-put-admission : tie.Need-slice-aggregate-put-admission
 slice-aggregate-put-admission c = sym (length-take-le (c .before .before .before .before .before .before .before .byte-in .result) (now (c .before .before .before .before .before .before .before .before .before .before .args .rest)) (c .before .before .before .before .before .before .before .byte-in .ensures .1))
@@ -79,6 +79,8 @@ put-admission-requires c κs =
     let q = take (length l - (p + 1)) (drop (p + 1) l) in
     let test = ap₂ _&&_ (c .before .before .before .before .before .before .is-bytes .ensures) (c .before .before .before .before .is-bytes2 .ensures) in
     let both = and-split (isBytes (take p l)) (isBytes q) (sym test ∙ not-false _ (c .before .before .before .if2 .left)) in
+    let fr = bytes-fit (take p l) (both .0) in
+    let fq = bytes-fit q (both .1) in
     let here = c .before .before .before .before .before .before .before .before .if1 .left in
     (both .0, both .1, omega (arith, length-take p l, rest-long (p + 1) l, c .before .before .before .before .before .before .before .before .before .before .before .before .pre))
 
@@ -92,12 +94,12 @@ returns-3 c =
     let p = c .before .before .before .before .before .before .before .before .before .before .before .before .byte-in .result in
     let q = take (length l - (p + 1)) (drop (p + 1) l) in
     let test = ap₂ _&&_ (c .before .before .before .before .before .before .before .before .before .is-bytes .ensures) (c .before .before .before .before .before .before .before .is-bytes2 .ensures) in
-    let good = admit-good l q p (space-found l p (c .before .before .before .before .before .before .before .before .before .before .before .before .byte-in .ensures .0)) (rest-all (p + 1) l) (sym test ∙ not-false _ (c .before .before .before .before .before .before .if2 .left)) in
+    let good = older-good l q p (space-found l p (c .before .before .before .before .before .before .before .before .before .before .before .before .byte-in .ensures .0)) (rest-all (p + 1) l) (sym test ∙ not-false _ (c .before .before .before .before .before .before .if2 .left)) in
     let put = c .before .before .put-admission in
-    good-line _ (admission (bytesOf (take p l)) (bytesOf q)) (now (a .code)) _ (a .at) (put .result) good (put .ensures .0 ∙ sym (length-admission (bytesOf (take p l)) (bytesOf q))) (put .ensures .1)
+    good-line _ (admission (bytesOf (take p l)) (bytesOf q)) (now (a .code)) _ (a .at) (put .result) good (put .ensures .0) (put .ensures .1)
 
-pub admit-line-spec : {M : Type 1} → statement M
-admit-line-spec =
+pub older-line-spec : {M : Type 1} → statement M
+older-line-spec =
     tie.close
     (tie.spec
     byte-in-requires
