@@ -15,7 +15,7 @@ fn say_wanted(out: &mut [u8], at: usize, wanted: u8) -> usize {
         return say(
             out,
             at,
-            b"admit RECORDS ROWS, each in base 16, two digits a byte and at most 65535 bytes, or - for none\n",
+            b"admit RECORDS ROWS or admit RECORDS ROWS PERIOD PHASE, where RECORDS and ROWS are in base 16, two digits a byte and at most 65535 bytes, or - for none, and PERIOD and PHASE one to three digits and at most 255\n",
         );
     }
     if wanted == 3 {
