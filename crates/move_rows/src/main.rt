@@ -54,16 +54,25 @@ fn move_to(up: bool, stored: &[u8], bytes: &[u8], records: &mut [u8], rows: &mut
     row_forms::narrow(stored, bytes, records, rows)
 }
 
-fn say_admission(out: &mut [u8], at: usize, records: &[u8], rows: &[u8]) -> usize {
+// The times are what stands behind the rows: a period and a phase, each with the space before it, or nothing.
+fn say_admission(out: &mut [u8], at: usize, records: &[u8], rows: &[u8], times: &[u8]) -> usize {
     let named = say(out, at, b"admit ");
     let recorded = say_bytes(out, named, records);
     let parted = say(out, recorded, b" ");
-    let whole = say_bytes(out, parted, rows);
+    let said = say_bytes(out, parted, rows);
+    let whole = say(out, said, times);
     say(out, whole, b"\n")
 }
 
 // The line of the block moved, or why it can't be.
-fn say_block(out: &mut [u8], at: usize, up: bool, stored: &[u8], bytes: &[u8]) -> Said {
+fn say_block(
+    out: &mut [u8],
+    at: usize,
+    up: bool,
+    stored: &[u8],
+    bytes: &[u8],
+    times: &[u8],
+) -> Said {
     let mut records = [0u8; MOST_RECORD_BYTES];
     let mut rows = row_memory();
     let refusal = move_to(up, stored, bytes, &mut records, &mut rows);
@@ -77,21 +86,55 @@ fn say_block(out: &mut [u8], at: usize, up: bool, stored: &[u8], bytes: &[u8]) -
     let count = least(stored.len(), MOST_RECORD_BYTES);
     let size = least(moved_size(up, bytes.len()), MOST_ROW_BYTES);
     Said {
-        at: say_admission(out, at, &records[..count], &rows[..size]),
+        at: say_admission(out, at, &records[..count], &rows[..size], times),
         refused: false,
         ended: false,
     }
 }
 
 // A block whose records are the first count bytes.
-fn say_parts(out: &mut [u8], at: usize, up: bool, count: usize, bytes: &[u8]) -> Said {
+fn say_parts(
+    out: &mut [u8],
+    at: usize,
+    up: bool,
+    count: usize,
+    bytes: &[u8],
+    times: &[u8],
+) -> Said {
     let end = least(count, bytes.len());
-    say_block(out, at, up, &bytes[..end], &bytes[end..])
+    say_block(out, at, up, &bytes[..end], &bytes[end..], times)
+}
+
+// Where the times of a tidied line begin, at its third space; its end where there is none.
+fn times_place(line: &[u8]) -> usize
+    ensures { λ r. ⌜ r ≤ length (now (line .entry)) ⌝ }
+{
+    let mut before: usize = 2;
+    let mut i = 0;
+    while i < line.len() {
+        if line[i] == 32 {
+            if before == 0 {
+                return i;
+            }
+            before -= 1;
+        }
+        i += 1;
+    }
+    i
+}
+
+// The call of an admission with a period and a phase has them before its bytes.
+fn bytes_place(call: u8) -> usize {
+    if call == 4 {
+        return 8;
+    }
+    6
 }
 
 // An admission's line moved, any other as it stands, from the bytes of its call.
 fn say_call(out: &mut [u8], at: usize, up: bool, line: &[u8], call: &[u8]) -> Said {
-    if byte_at(call, 0) != 1 {
+    let first = byte_at(call, 0);
+    if (first != 1) & (first != 4) {
         let said = say(out, at, line);
         return Said {
             at: say(out, said, b"\n"),
@@ -99,9 +142,10 @@ fn say_call(out: &mut [u8], at: usize, up: bool, line: &[u8], call: &[u8]) -> Sa
             ended: false,
         };
     }
-    let from = least(6, call.len());
+    let from = least(bytes_place(first), call.len());
     let count = wide16(pair(byte_at(call, 1), byte_at(call, 2)));
-    say_parts(out, at, up, count, &call[from..])
+    let times = times_place(line);
+    say_parts(out, at, up, count, &call[from..], &line[times..])
 }
 
 // The line's call moved; code is memory for it in bytes.

@@ -15,7 +15,7 @@ least-requires : tie.Need-least-requires
 least-requires c κs = search needs
 
 slice-aggregate-say-block : tie.Need-slice-aggregate-say-block
-slice-aggregate-say-block c = omega (arith, length-take (c .before .before .least .result) (now (c .before .before .before .before .before .args .bytes)))
+slice-aggregate-say-block c = omega (arith, length-take (c .before .before .least .result) (now (c .before .before .before .before .before .before .args .bytes)))
 
 sub-say-block : tie.Need-sub-say-block
 sub-say-block c = search needs
