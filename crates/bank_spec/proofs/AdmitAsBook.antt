@@ -1,30 +1,29 @@
 -- Admission is answered as in the book, and keeps the relation.
 -- Assumes nothing.
 use mathlib.Core.Path.{_≡_, refl, sym, _∙_, ap, ap₂}
-use mathlib.Core.Bool.{Bool, true, false, cond, not, _||_, false≢true}
-use mathlib.Core.List.{List, [], _∷_}
-use Prim.Native.Nat.{ℕ, suc, _+_, _*_, _/_, _<_, _≤_}
+use mathlib.Core.Bool.{Bool, true, false, cond, false≢true}
+use mathlib.Core.List.{List, []}
+use Prim.Native.Nat.{ℕ, _+_, _*_, _/_, _<_, _≤_}
 use native.Mathlib.Omega.{arith}
 use lib.Dec.{eqb, leb, ltb}
 use lib.ListN.{length, getD, set, length-set}
 use lib.Seq.{getD-set-same, getD-set-other}
-use borrow.Author.Tests.{le-leb, leb-true, leb-false, ltb-false, eqb-true, not-false}
+use borrow.Author.Tests.{le-leb, leb-true, eqb-true}
 use Rattle.laws.specs.Tests.{any, within}
 use Rattle.laws.specs.Lists.{written}
-use Rattle.laws.proofs.Cases.{last-or-below, and-split, and-join, or-split, cond-zero}
+use Rattle.laws.proofs.Cases.{last-or-below, and-split, and-join}
 use Rattle.laws.proofs.Counts.{sum-ext, sum-at}
-use Rattle.laws.proofs.Filled.{length-written, getD-written, getD-before}
+use Rattle.laws.proofs.Filled.{length-written}
 use Rattle.laws.proofs.Parts.{part, part-before, part-written, part-replicate}
-use Rattle.laws.proofs.Tests.{any-ext, any-out}
+use Rattle.laws.proofs.Tests.{any-ext}
 use Rattle.stored_spec.specs.StoredForm.{wellFormed, rowCount}
 use Rattle.stored_spec.specs.Run.{unset}
 use Rattle.stored_spec.specs.RowBytes.{twoBytes, rowValue, room}
 use Rattle.stored_spec.proofs.Promises.{records-have, formed-records, formed-parts, room-two, row-before, row-written}
 use Rattle.bank_spec.specs.Due.{timed, dueCells, numberAfter}
-use Rattle.bank_spec.specs.State.{State, recordsOf, cellsHeld, rowsHeld, formed, cleared}
+use Rattle.bank_spec.specs.State.{State, recordsOf, cellsHeld, rowsHeld, cleared}
 use Rattle.bank_spec.specs.Calls.{Handed, numbered, admitRefusal, withBlock, admitted, admit, outputsOf, scanAt}
-use Rattle.bank_spec.specs.Book.{Block, Book, blockAt, cellsIn, rowsIn, bookRefusal, wiped, newBlock, entered, bookAdmit}
-use Rattle.bank_spec.proofs.Scans.{cellsAbove}
+use Rattle.bank_spec.specs.Book.{Block, Book, cellsIn, rowsIn, bookRefusal, wiped, entered, bookAdmit}
 use Rattle.bank_spec.proofs.Entered.{Admits, admits, entered-length, entered-old, entered-new, entered-cells}
 use Rattle.bank_spec.proofs.Related.{recordsIn, rowsAbove, SameBlock, Related, Match, cells-in, rows-in, cells-held, rows-held, all-formed}
 

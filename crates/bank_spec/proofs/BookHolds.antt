@@ -1,7 +1,7 @@
 -- What holds of every book that a list of calls leaves: its blocks are few, well formed and in every scan within the limit, and each has read some
 -- of its cells for its word.
 -- Assumes nothing.
-use mathlib.Core.Path.{_≡_, refl, sym, _∙_, ap, ap₂, subst}
+use mathlib.Core.Path.{_≡_, sym, _∙_, ap, ap₂, subst}
 use mathlib.Core.Logic.{_⊎_}
 use mathlib.Core.Bool.{true}
 use mathlib.Core.List.{List, [], _∷_}

@@ -18,7 +18,7 @@ use Rattle.laws.specs.Tests.{any}
 use Rattle.laws.proofs.Tests.{any-ext}
 use Rattle.bank_spec.specs.Due.{timed, dueCells}
 use Rattle.bank_spec.specs.Calls.{Answer, accepted, refused, numbered, After, Handed}
-use Rattle.bank_spec.specs.Book.{Block, Place, Book, noBlock, blockAt, isDue, dueCellsOf, cellsIn, rowsIn, bookRefusal, places, entered, bookAdmit, bookLatch, readFirst, bookStep}
+use Rattle.bank_spec.specs.Book.{Block, Place, Book, noBlock, blockAt, isDue, cellsIn, rowsIn, bookRefusal, places, entered, bookAdmit, bookLatch, readFirst, bookStep}
 use Rattle.bank_spec.specs.CallLists.{Call, admission, latching, stepping, Entry, bookCall, bookAfter, outputsInBook, bookTrace, readsOf, stepsOf, ends, goesOn}
 use Rattle.bank_spec.specs.Demand3.{CompiledBy, SetAllowed, OnlyUnread}
 use Rattle.bank_spec.proofs.Scans.{afterCells, inScan, readIn, stepped, scan-over, length-places, cells-within, due-cells}

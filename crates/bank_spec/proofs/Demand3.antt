@@ -25,7 +25,7 @@ use Rattle.laws.specs.Tests.{within}
 use Rattle.bank_spec.specs.State.{fresh}
 use Rattle.bank_spec.specs.Book.{Book, newBook, blockAt}
 use Rattle.bank_spec.specs.CallLists.{Call, stateAfter, bookAfter}
-use Rattle.bank_spec.specs.Scanned.{Round, lastCells}
+use Rattle.bank_spec.specs.Scanned.{lastCells}
 use Rattle.bank_spec.specs.Demand3.{Demand3, SetAllowed}
 use Rattle.bank_spec.proofs.Related.{Related}
 use Rattle.bank_spec.proofs.AsBook.{as-book, after-related, fresh-related, idle-keeps}

@@ -3,11 +3,10 @@
 use mathlib.Core.Path.{_≡_, refl, sym, _∙_, ap, ap₂, subst}
 use mathlib.Core.Bool.{Bool, true, false, _&&_}
 use mathlib.Core.List.{List, [], _∷_}
-use Prim.Native.Nat.{ℕ, zero, suc, _+_, _-_, _/_, _<_, _≤_}
-use native.Mathlib.Nat.{not-suc-le-zero}
+use Prim.Native.Nat.{ℕ, zero, suc, _+_, _-_, _/_, _<_}
 use native.Mathlib.Omega.{arith}
 use lib.Dec.{eqb}
-use lib.ListN.{length, getD, take, drop, length-drop, take-append-drop}
+use lib.ListN.{length, getD, drop, length-drop}
 use lib.Seq.{take-all}
 use borrow.Author.Tests.{eqb-true, eq-eqb, ne-eqb}
 use Rattle.laws.specs.Bits.{flag}
@@ -21,12 +20,12 @@ use Rattle.bank_spec.specs.Due.{timed, due, numberAfter}
 use Rattle.bank_spec.specs.State.{State}
 use Rattle.bank_spec.specs.Calls.{latch}
 use Rattle.bank_spec.specs.Book.{Block, Place, Book, blockAt, isDue, dueCellsOf, places, bookLatch}
-use Rattle.bank_spec.specs.CallLists.{Call, stateAfter, bookAfter, trace, bookTrace, readsOf, stepsOf, goesOn}
+use Rattle.bank_spec.specs.CallLists.{stateAfter, bookAfter, trace, readsOf, stepsOf, goesOn}
 use Rattle.bank_spec.specs.Scanned.{cellsOf, Round, none, steppedOut, isWhole, wholeReads}
 use Rattle.bank_spec.proofs.Timed.{timed-one-of}
 use Rattle.bank_spec.proofs.Scans.{stepped, due-cells, no-due-cells}
 use Rattle.bank_spec.proofs.BookScans.{scan-goes, scan-reads}
-use Rattle.bank_spec.proofs.LatchKeeps.{Kept, kept-back, kept-on, latch-kept, stepped-kept, stepped-left, stepped-next}
+use Rattle.bank_spec.proofs.LatchKeeps.{Kept, kept-on, latch-kept, stepped-kept, stepped-left, stepped-next}
 use Rattle.bank_spec.proofs.LastCells.{places-cells}
 use Rattle.stored_spec.proofs.Promises.{some-cell}
 use Rattle.bank_spec.proofs.Related.{Related, records-formed}

@@ -2,31 +2,31 @@
 -- word just as far, and so exactly the outputs of these cells are set.
 -- Assumes nothing.
 use mathlib.Core.Path.{_≡_, refl, sym, _∙_, ap, ap₂, subst}
-use mathlib.Core.Bool.{Bool, true, false, cond, _||_, true≢false}
-use mathlib.Core.List.{List, [], _∷_, _++_, map, append-nil}
-use Prim.Native.Nat.{ℕ, zero, suc, _+_, _/_, _^_, _<_, _≤_}
+use mathlib.Core.Bool.{Bool, true, false, cond, _||_}
+use mathlib.Core.List.{List, [], _∷_, _++_, append-nil}
+use Prim.Native.Nat.{ℕ, zero, suc, _+_, _<_, _≤_}
 use native.Mathlib.Nat.{not-suc-le-zero}
 use native.Mathlib.Omega.{arith}
 use lib.Dec.{eqb, ltb}
 use lib.ListN.{length, getD, set, replicate, length-set}
 use lib.Seq.{getD-set-same, getD-set-other}
-use borrow.Author.Tests.{eqb-true, eq-eqb, ne-eqb, lt-ltb}
+use borrow.Author.Tests.{eq-eqb, ne-eqb, lt-ltb}
 use Rattle.laws.specs.Bits.{bit}
 use Rattle.laws.specs.Lists.{tab, joined}
 use Rattle.laws.proofs.Bits.{bit-lt}
-use Rattle.laws.proofs.Cases.{by-test, by-less, by-equal, last-or-below, cond-yes, cond-no}
-use Rattle.laws.proofs.Lists.{length-tab, tab-next, getD-tab, tab-ext, joined-front}
+use Rattle.laws.proofs.Cases.{by-test, by-equal, last-or-below, cond-yes, cond-no}
+use Rattle.laws.proofs.Lists.{tab-ext}
 use Rattle.stored_spec.specs.StoredForm.{member, cellCount, cellAt}
 use Rattle.stored_spec.specs.Run.{Running, run, runBy, ranOneBy, outputsAfter, setOutputs, unset}
 use Rattle.stored_spec.specs.RowBytes.{twoBytes, rowValue}
 use Rattle.stored_spec.proofs.Promises.{set-length}
-use Rattle.bank_spec.specs.Calls.{Answer, accepted, refused, numbered, Handed}
+use Rattle.bank_spec.specs.Calls.{accepted, refused, numbered, Handed}
 use Rattle.bank_spec.specs.Book.{Block, Place, Book, newBook, noBlock, blockAt, isDue, dueCellsOf, places, bookRefusal, entered, bookAdmit, wiped, bookLatch, readCell, readFirst, bookStep}
 use Rattle.bank_spec.specs.CallLists.{Call, admission, latching, stepping, bookCall, bookAfter, readOf}
 use Rattle.bank_spec.specs.Scanned.{cellsOf, beginsAnew, lastCells, setBy}
 use Rattle.bank_spec.proofs.Scans.{due-cells, no-due-cells}
 use Rattle.bank_spec.proofs.LatchKeeps.{latch-length, latch-due, latch-not-due}
-use Rattle.bank_spec.proofs.Entered.{entered-length, entered-each}
+use Rattle.bank_spec.proofs.Entered.{entered-each}
 
 -- the cells of block b among the places of a scan
 abbrev place : ℕ → ℕ → Place

@@ -1,18 +1,16 @@
 -- The next due block: where it stands, and that no due cell lies between.
 -- Assumes nothing.
-use mathlib.Core.Path.{_≡_, refl, sym, _∙_, ap}
-use mathlib.Core.Bool.{Bool, true, false}
-use mathlib.Core.List.{List}
-use Prim.Native.Nat.{ℕ, zero, suc, _+_, _-_, _<_, _≤_}
-use native.Mathlib.Nat.{not-suc-le-zero}
+use mathlib.Core.Path.{_≡_, sym, _∙_, ap}
+use mathlib.Core.Bool.{true, false}
+use Prim.Native.Nat.{ℕ, zero, suc, _-_, _<_, _≤_}
 use native.Mathlib.Omega.{arith}
 use lib.ListN.{length}
-use Rattle.laws.specs.Tests.{sum, find}
+use Rattle.laws.specs.Tests.{sum}
 use Rattle.laws.proofs.Cases.{by-less}
 use Rattle.laws.proofs.Find.{find-le, find-from, find-hit, find-before}
 use Rattle.bank_spec.specs.State.{State, dueAt, nextDue}
 use Rattle.bank_spec.specs.declared.Bank.{Bank}
-use Rattle.bank_spec.specs.Book.{Block, Book, blockAt, isDue, dueCellsOf}
+use Rattle.bank_spec.specs.Book.{Book, blockAt, isDue, dueCellsOf}
 use Rattle.bank_spec.proofs.Scans.{cellsAbove, no-due-cells}
 use Rattle.bank_spec.proofs.Related.{Related, due-same}
 

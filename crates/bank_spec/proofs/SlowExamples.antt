@@ -4,7 +4,6 @@
 use mathlib.Core.Path.{_≡_, refl}
 use mathlib.Core.Bool.{true, false}
 use mathlib.Core.List.{List, [], _∷_, _++_}
-use Prim.Native.Nat.{ℕ}
 use lib.ListN.{length, replicate}
 use Rattle.sheet_spec.specs.Opened.{sheetOpened}
 use Rattle.cutting_spec.specs.Opened.{cuttingOpened}
@@ -14,7 +13,7 @@ use Rattle.bank_spec.specs.State.{State, fresh}
 use Rattle.bank_spec.specs.Calls.{handed}
 use Rattle.bank_spec.specs.Book.{Book, newBook, blockAt, isDue, cellsIn}
 use Rattle.bank_spec.specs.CallLists.{Call, admission, latching, stepping, bookCall, stateAfter, bookAfter, goesOn}
-use Rattle.bank_spec.specs.Scanned.{lastCells, setBy, Round, callsOf, steppedOut, wholeReads}
+use Rattle.bank_spec.specs.Scanned.{lastCells, setBy, Round, steppedOut, wholeReads}
 use Rattle.bank_spec.specs.Demand3.{outputIn}
 
 abbrev inTurn : List Call

@@ -5,7 +5,7 @@ use mathlib.Core.Bool.{Bool, true, false, cond, not, _||_}
 use mathlib.Core.List.{List}
 use Prim.Native.Nat.{ℕ, _+_, _*_, _/_, _<_, _≤_}
 use native.Mathlib.Omega.{arith}
-use borrow.Author.Tests.{eqb-true, ltb-false, leb-true, leb-false, lt-ltb, le-ltb, le-leb, lt-leb}
+use borrow.Author.Tests.{ltb-false, leb-true, leb-false, lt-ltb, le-ltb, le-leb, lt-leb}
 use lib.Dec.{eqb, leb, ltb}
 use lib.ListN.{length, getD, set}
 use Rattle.laws.specs.Lists.{putsAt, written}
@@ -13,8 +13,8 @@ use Rattle.laws.specs.Tests.{any, every}
 use Rattle.laws.proofs.Tests.{any-none, any-of, every-at, every-out}
 use Rattle.laws.proofs.Cases.{by-test, cond-yes, cond-no, or-split}
 use Rattle.laws.proofs.Puts.{copied-at}
-use Rattle.stored_spec.specs.RowBytes.{twoBytes, room}
-use Rattle.stored_spec.specs.StoredForm.{wellFormed, recordsFormed, recordCount, cellCount, rowCount}
+use Rattle.stored_spec.specs.RowBytes.{twoBytes}
+use Rattle.stored_spec.specs.StoredForm.{wellFormed, recordCount, cellCount, rowCount}
 use Rattle.stored.specs.Reads.{rowsCounted}
 use Rattle.stored_spec.proofs.Promises.{records-have, formed-parts, room-two}
 use Rattle.stored.proofs.Promises.{cells-all, cells-few, formed-fit, rows-counted}

@@ -1,3 +1,5 @@
+-- `bank::admitting::admit_block` meets its contract.
+-- Assumes nothing.
 use mathlib.Core.Path.{sym, _∙_}
 use borrow.Author.Tests.{not-true, not-false}
 use native.Mathlib.Omega.{arith}
@@ -6,19 +8,6 @@ use Rattle.bank_spec.proofs.Promises.{timed-small}
 use borrow.Author.Needs.{needs}
 use Rattle.bank.proofs.admitting.admit_block.Statement.{statement}
 use Rattle.bank.proofs.admitting.admit_block.Tie as tie
-use Rattle.bank.proofs.admitting.admit_block.Reads as reads
-use Rattle.bank.proofs.admitting.admit_block.Lts as lts
-use Rattle.bank.proofs.admitting.at_rest.Reads as at-rest-reads
-use Rattle.bank.proofs.admitting.copy_at.Reads as copy-at-reads
-use Rattle.bank.proofs.admitting.with_block.Reads as with-block-reads
-use Rattle.bank.proofs.due_blocks.timed.Reads as timed-reads
-use Rattle.numbers.proofs.wide.Reads as wide-reads
-use Rattle.bank.proofs.formed.cells_fit.Reads as cells-fit-reads
-use Rattle.bank.proofs.formed.rows_before.Reads as rows-before-reads
-use Rattle.bank.proofs.formed.state_formed.Reads as state-formed-reads
-use Rattle.stored.proofs.cell_count.Reads as cell-count-reads
-use Rattle.stored.proofs.row_count.Reads as row-count-reads
-use Rattle.stored.proofs.well_formed.Reads as well-formed-reads
 
 state-formed-requires : tie.Need-state-formed-requires
 state-formed-requires c κs = search needs

@@ -1,3 +1,5 @@
+-- `bank::admitting::with_block` meets its contract.
+-- Assumes nothing.
 use mathlib.Core.Path.{_≡_}
 use Prim.Native.Nat.{_+_, _*_, _≤_}
 use lib.ListN.{length}
@@ -6,10 +8,6 @@ use Rattle.bank.proofs.admitting.AdmissionCases.{block-added}
 use borrow.Author.Needs.{needs}
 use Rattle.bank.proofs.admitting.with_block.Statement.{statement}
 use Rattle.bank.proofs.admitting.with_block.Tie as tie
-use Rattle.bank.proofs.admitting.with_block.Reads as reads
-use Rattle.bank.proofs.admitting.with_block.Lts as lts
-use Rattle.bank.proofs.admitting.copy_at.Reads as copy-at-reads
-use Rattle.numbers.proofs.wide.Reads as wide-reads
 
 wide-requires : tie.Need-wide-requires
 wide-requires c κs = search needs

@@ -1,9 +1,9 @@
+-- `bank::due_blocks::due` meets its contract.
+-- Assumes nothing.
 use Rattle.bank.proofs.due_blocks.DueTests.{due-by, period-8}
 use borrow.Author.Needs.{needs}
 use Rattle.bank.proofs.due_blocks.due.Statement.{statement}
 use Rattle.bank.proofs.due_blocks.due.Tie as tie
-use Rattle.bank.proofs.due_blocks.due.Reads as reads
-use Rattle.bank.proofs.due_blocks.due.Lts as lts
 
 returns : tie.Need-returns
 returns c = let a = c .before .args in due-by (a .period) (a .phase) (a .number) (c .if1 .taken)

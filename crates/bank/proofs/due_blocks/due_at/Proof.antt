@@ -1,11 +1,10 @@
+-- `bank::due_blocks::due_at` meets its contract.
+-- Assumes nothing.
 use mathlib.Core.Path.{_∙_}
 use Rattle.bank.proofs.due_blocks.DueTests.{block-timed, due-here}
 use borrow.Author.Needs.{needs}
 use Rattle.bank.proofs.due_blocks.due_at.Statement.{statement}
 use Rattle.bank.proofs.due_blocks.due_at.Tie as tie
-use Rattle.bank.proofs.due_blocks.due_at.Reads as reads
-use Rattle.bank.proofs.due_blocks.due_at.Lts as lts
-use Rattle.bank.proofs.due_blocks.due.Reads as due-reads
 
 array-read-due : tie.Need-array-read-due
 array-read-due c = search needs

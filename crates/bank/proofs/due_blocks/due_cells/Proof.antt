@@ -1,3 +1,5 @@
+-- `bank::due_blocks::due_cells` meets its contract.
+-- Assumes nothing.
 use mathlib.Core.Path.{_≡_}
 use Prim.Native.Nat.{_≤_, _-_, _*_}
 use native.Mathlib.Omega.{arith}
@@ -6,9 +8,6 @@ use Rattle.bank.proofs.due_blocks.DueTests.{no-cells, cells-next}
 use borrow.Author.Needs.{needs}
 use Rattle.bank.proofs.due_blocks.due_cells.Statement.{statement}
 use Rattle.bank.proofs.due_blocks.due_cells.Tie as tie
-use Rattle.bank.proofs.due_blocks.due_cells.Reads as reads
-use Rattle.bank.proofs.due_blocks.due_cells.Lts as lts
-use Rattle.bank.proofs.due_blocks.due_count.Reads as due-count-reads
 
 abbrev Inv-loop : tie.InvT-loop
 Inv-loop bank counts number n cells₀ b₀ cells b = (b ≤ n) × (cells ≡ cellsBefore bank number b) × (cells ≤ b * 256)

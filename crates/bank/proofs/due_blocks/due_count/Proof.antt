@@ -1,13 +1,11 @@
+-- `bank::due_blocks::due_count` meets its contract.
+-- Assumes nothing.
 use mathlib.Core.Path.{sym, _∙_}
 use native.Mathlib.Omega.{arith}
 use Rattle.bank.proofs.due_blocks.DueTests.{due-count, no-count}
 use borrow.Author.Needs.{needs}
 use Rattle.bank.proofs.due_blocks.due_count.Statement.{statement}
 use Rattle.bank.proofs.due_blocks.due_count.Tie as tie
-use Rattle.bank.proofs.due_blocks.due_count.Reads as reads
-use Rattle.bank.proofs.due_blocks.due_count.Lts as lts
-use Rattle.bank.proofs.due_blocks.due_at.Reads as due-at-reads
-use Rattle.numbers.proofs.wide.Reads as wide-reads
 
 due-at-requires : tie.Need-due-at-requires
 due-at-requires c κs = search needs

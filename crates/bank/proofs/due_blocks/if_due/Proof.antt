@@ -1,3 +1,5 @@
+-- `bank::due_blocks::if_due` meets its contract.
+-- Assumes nothing.
 use mathlib.Core.Path.{sym, _∙_}
 use native.Mathlib.Omega.{arith}
 use Rattle.laws.proofs.Cases.{cond-yes, cond-no}
@@ -5,9 +7,6 @@ use Rattle.bank_spec.specs.Due.{due}
 use borrow.Author.Needs.{needs}
 use Rattle.bank.proofs.due_blocks.if_due.Statement.{statement}
 use Rattle.bank.proofs.due_blocks.if_due.Tie as tie
-use Rattle.bank.proofs.due_blocks.if_due.Reads as reads
-use Rattle.bank.proofs.due_blocks.if_due.Lts as lts
-use Rattle.bank.proofs.due_blocks.due.Reads as due-reads
 
 due-requires : tie.Need-due-requires
 due-requires c κs = c .pre

@@ -1,3 +1,5 @@
+-- `bank::due_blocks::next_due` meets its contract.
+-- Assumes nothing.
 use mathlib.Core.Path.{_≡_, refl, sym, _∙_}
 use Prim.Native.Nat.{_≤_, _-_}
 use native.Mathlib.Omega.{arith}
@@ -5,9 +7,6 @@ use Rattle.bank.proofs.due_blocks.DueTests.{found, found-here, found-la
 use borrow.Author.Needs.{needs}
 use Rattle.bank.proofs.due_blocks.next_due.Statement.{statement}
 use Rattle.bank.proofs.due_blocks.next_due.Tie as tie
-use Rattle.bank.proofs.due_blocks.next_due.Reads as reads
-use Rattle.bank.proofs.due_blocks.next_due.Lts as lts
-use Rattle.bank.proofs.due_blocks.due_at.Reads as due-at-reads
 
 abbrev Inv-loop : tie.InvT-loop
 Inv-loop bank number b n i₀ i = (b ≤ i) × (i ≤ n) × (found bank number n i ≡ found bank number n b)

@@ -1,3 +1,5 @@
+-- `bank::due_blocks::scans_fit` meets its contract.
+-- Assumes nothing.
 use mathlib.Core.Path.{_≡_, refl, sym, subst}
 use mathlib.Core.Bool.{_&&_}
 use Prim.Native.Nat.{ℕ, _≤_, _-_, _+_}
@@ -8,10 +10,6 @@ use Rattle.bank.proofs.due_blocks.DueTests.{fitsAt, fit-next}
 use borrow.Author.Needs.{needs}
 use Rattle.bank.proofs.due_blocks.scans_fit.Statement.{statement}
 use Rattle.bank.proofs.due_blocks.scans_fit.Tie as tie
-use Rattle.bank.proofs.due_blocks.scans_fit.Reads as reads
-use Rattle.bank.proofs.due_blocks.scans_fit.Lts as lts
-use Rattle.bank.proofs.due_blocks.due_cells.Reads as due-cells-reads
-use Rattle.bank.proofs.due_blocks.if_due.Reads as if-due-reads
 
 abbrev Inv-loop : tie.InvT-loop
 Inv-loop bank counts n period phase cells limit good₀ number₀ good number =

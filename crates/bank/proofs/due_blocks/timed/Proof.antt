@@ -1,9 +1,9 @@
+-- `bank::due_blocks::timed` meets its contract.
+-- Assumes nothing.
 use Rattle.bank.proofs.due_blocks.DueTests.{timed-is}
 use borrow.Author.Needs.{needs}
 use Rattle.bank.proofs.due_blocks.timed.Statement.{statement}
 use Rattle.bank.proofs.due_blocks.timed.Tie as tie
-use Rattle.bank.proofs.due_blocks.timed.Reads as reads
-use Rattle.bank.proofs.due_blocks.timed.Lts as lts
 
 returns : tie.Need-returns
 returns c = let a = c .args in timed-is (a .period) (a .phase)

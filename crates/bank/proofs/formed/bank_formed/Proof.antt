@@ -1,3 +1,5 @@
+-- `bank::formed::bank_formed` meets its contract.
+-- Assumes nothing.
 use mathlib.Core.Path.{sym, _∙_, ap, ap₂}
 use mathlib.Core.Bool.{Bool, _&&_}
 use Prim.Native.Nat.{ℕ}
@@ -11,12 +13,6 @@ use native.Mathlib.Omega.{arith}
 use borrow.Author.Needs.{needs}
 use Rattle.bank.proofs.formed.bank_formed.Statement.{statement}
 use Rattle.bank.proofs.formed.bank_formed.Tie as tie
-use Rattle.bank.proofs.formed.bank_formed.Reads as reads
-use Rattle.bank.proofs.formed.bank_formed.Lts as lts
-use Rattle.numbers.proofs.wide.Reads as wide-reads
-use Rattle.bank.proofs.formed.blocks_formed.Reads as blocks-formed-reads
-use Rattle.bank.proofs.formed.cells_fit.Reads as cells-fit-reads
-use Rattle.bank.proofs.formed.rows_before.Reads as rows-before-reads
 
 wide-requires : tie.Need-wide-requires
 wide-requires c κs = search needs

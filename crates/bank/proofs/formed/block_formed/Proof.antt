@@ -1,3 +1,5 @@
+-- `bank::formed::block_formed` meets its contract.
+-- Assumes nothing.
 use mathlib.Core.Path.{_≡_, sym, _∙_, ap}
 use Prim.Native.Nat.{_+_, _*_, _≤_}
 use lib.ListN.{length}
@@ -8,11 +10,6 @@ use Rattle.bank.proofs.formed.HeldBlocks.{part-is, too-few, too-many, n
 use borrow.Author.Needs.{needs}
 use Rattle.bank.proofs.formed.block_formed.Statement.{statement}
 use Rattle.bank.proofs.formed.block_formed.Tie as tie
-use Rattle.bank.proofs.formed.block_formed.Reads as reads
-use Rattle.bank.proofs.formed.block_formed.Lts as lts
-use Rattle.bank.proofs.due_blocks.timed.Reads as timed-reads
-use Rattle.numbers.proofs.wide.Reads as wide-reads
-use Rattle.stored.proofs.records_formed.Reads as records-formed-reads
 
 array-read-wide : tie.Need-array-read-wide
 array-read-wide c = search needs

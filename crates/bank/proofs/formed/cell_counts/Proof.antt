@@ -1,3 +1,5 @@
+-- `bank::formed::cell_counts` meets its contract.
+-- Assumes nothing.
 use mathlib.Core.Path.{_≡_, sym, _∙_}
 use Prim.Native.Nat.{_≤_, _-_}
 use native.Mathlib.Omega.{arith}
@@ -9,9 +11,6 @@ use Rattle.bank.proofs.formed.CountedCells.{counts-stored}
 use borrow.Author.Needs.{needs}
 use Rattle.bank.proofs.formed.cell_counts.Statement.{statement}
 use Rattle.bank.proofs.formed.cell_counts.Tie as tie
-use Rattle.bank.proofs.formed.cell_counts.Reads as reads
-use Rattle.bank.proofs.formed.cell_counts.Lts as lts
-use Rattle.bank.proofs.formed.block_cells.Reads as block-cells-reads
 
 abbrev Inv-loop : tie.InvT-loop
 Inv-loop bank n counts₀ b₀ counts b = (b ≤ n) × (counts ≡ puts b (λ i. cellCount (recordsOf bank i)) counts₀)

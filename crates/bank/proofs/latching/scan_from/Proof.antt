@@ -1,13 +1,11 @@
+-- `bank::latching::scan_from` meets its contract.
+-- Assumes nothing.
 use native.Mathlib.Omega.{arith}
 use Rattle.bank.proofs.formed.HeldBlocks.{bank-has}
 use Rattle.bank.proofs.latching.LatchCases.{from-some, from-none}
 use borrow.Author.Needs.{needs}
 use Rattle.bank.proofs.latching.scan_from.Statement.{statement}
 use Rattle.bank.proofs.latching.scan_from.Tie as tie
-use Rattle.bank.proofs.latching.scan_from.Reads as reads
-use Rattle.bank.proofs.latching.scan_from.Lts as lts
-use Rattle.bank.proofs.due_blocks.next_due.Reads as next-due-reads
-use Rattle.numbers.proofs.wide.Reads as wide-reads
 
 wide-requires : tie.Need-wide-requires
 wide-requires c κs = search needs

@@ -1,3 +1,5 @@
+-- `bank::latching::word_kept` meets its contract.
+-- Assumes nothing.
 use mathlib.Core.Path.{sym, _∙_}
 use native.Mathlib.Omega.{arith}
 use lib.Dec.{ltb}
@@ -7,10 +9,6 @@ use Rattle.bank_spec.specs.Calls.{keeps}
 use borrow.Author.Needs.{needs}
 use Rattle.bank.proofs.latching.word_kept.Statement.{statement}
 use Rattle.bank.proofs.latching.word_kept.Tie as tie
-use Rattle.bank.proofs.latching.word_kept.Reads as reads
-use Rattle.bank.proofs.latching.word_kept.Lts as lts
-use Rattle.numbers.proofs.wide.Reads as wide-reads
-use Rattle.bank.proofs.latching.keeps.Reads as keeps-reads
 
 keeps-requires : tie.Need-keeps-requires
 keeps-requires c κs = search needs

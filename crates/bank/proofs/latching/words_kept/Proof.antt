@@ -1,3 +1,5 @@
+-- `bank::latching::words_kept` meets its contract.
+-- Assumes nothing.
 use mathlib.Core.Path.{_≡_, refl, sym, _∙_}
 use Prim.Native.Nat.{_≤_, _-_}
 use native.Mathlib.Omega.{arith}
@@ -7,9 +9,6 @@ use Rattle.bank.proofs.latching.LatchCases.{wordIn, words-all}
 use borrow.Author.Needs.{needs}
 use Rattle.bank.proofs.latching.words_kept.Statement.{statement}
 use Rattle.bank.proofs.latching.words_kept.Tie as tie
-use Rattle.bank.proofs.latching.words_kept.Reads as reads
-use Rattle.bank.proofs.latching.words_kept.Lts as lts
-use Rattle.bank.proofs.latching.word_kept.Reads as word-kept-reads
 
 abbrev Inv-loop : tie.InvT-loop
 Inv-loop bank number old words kept₀ b₀ kept b = (b ≤ 8) × (kept ≡ puts b (wordIn bank number old words) kept₀)

@@ -1,3 +1,5 @@
+-- `bank::stepping::moved_on` meets its contract.
+-- Assumes nothing.
 use mathlib.Core.Path.{_≡_, sym, _∙_}
 use Prim.Native.Nat.{_+_}
 use native.Mathlib.Omega.{arith}
@@ -7,13 +9,6 @@ use Rattle.bank.proofs.stepping.StepCases.{next-cell, next-block}
 use borrow.Author.Needs.{needs}
 use Rattle.bank.proofs.stepping.moved_on.Statement.{statement}
 use Rattle.bank.proofs.stepping.moved_on.Tie as tie
-use Rattle.bank.proofs.stepping.moved_on.Reads as reads
-use Rattle.bank.proofs.stepping.moved_on.Lts as lts
-use Rattle.numbers.proofs.wide.Reads as wide-reads
-use Rattle.bank.proofs.latching.scan_from.Reads as scan-from-reads
-use Rattle.bank.proofs.stepping.more_cells.Reads as more-cells-reads
-use Rattle.bank.proofs.stepping.outputs_after.Reads as outputs-after-reads
-use Rattle.bank.proofs.stepping.rail_after.Reads as rail-after-reads
 
 outputs-after-requires : tie.Need-outputs-after-requires
 outputs-after-requires c κs = search needs

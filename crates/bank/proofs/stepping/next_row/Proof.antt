@@ -1,11 +1,11 @@
 -- `bank::stepping::next_row` meets its contract.
 -- Assumes nothing.
 use mathlib.Core.Path.{_≡_, sym, _∙_, ap}
-use Prim.Native.Nat.{ℕ, _+_, _*_, _≤_}
+use Prim.Native.Nat.{_+_, _*_, _≤_}
 use native.Mathlib.Omega.{arith}
 use Rattle.stored_spec.specs.RowBytes.{twoBytes, rowValue}
 use Rattle.stored_spec.proofs.Promises.{room-two, row-two}
-use lib.ListN.{length, getD}
+use lib.ListN.{length}
 use denote.Ref.{now}
 use Rattle.bank_spec.specs.State.{rowsHeld}
 use Rattle.bank_spec.specs.Calls.{nextRow}
