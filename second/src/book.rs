@@ -4,9 +4,30 @@
 /// A call on the bank, with the arguments the book is fed.
 #[derive(Clone, Debug, PartialEq, Eq)]
 pub enum Call {
-    Admit { records: Vec<u8>, rows: Vec<u8> },
+    Admit {
+        records: Vec<u8>,
+        rows: Vec<u8>,
+        period: u64,
+        phase: u64,
+    },
     Latch([u16; 8]),
     Step,
+}
+
+impl Call {
+    /// The older admission: period 1, phase 0.
+    pub fn admit(records: Vec<u8>, rows: Vec<u8>) -> Call {
+        Call::admit_every(records, rows, (1, 0))
+    }
+
+    pub fn admit_every(records: Vec<u8>, rows: Vec<u8>, (period, phase): (u64, u64)) -> Call {
+        Call::Admit {
+            records,
+            rows,
+            period,
+            phase,
+        }
+    }
 }
 
 /// The answer to a call. Blocks and cells count from 0.
@@ -24,11 +45,39 @@ pub type Outputs = Vec<[Option<bool>; 8]>;
 const BLOCKS: usize = 8;
 const USABLE_ROWS: usize = 32_768;
 
-/// A block as handed in.
+/// For each of the eight scans whether a block is read in it.
+type DueScans = [bool; 8];
+
+/// A block as handed in, and when it is due.
 #[derive(Clone, Debug, PartialEq, Eq)]
 struct Block {
     records: Vec<u8>,
     rows: Vec<u8>,
+    due: DueScans,
+}
+
+impl Block {
+    fn cell_count(&self) -> usize {
+        cells(&self.records).len()
+    }
+}
+
+/// The scans that leave the phase as remainder by the period; None for a wrong period or phase.
+fn due_scans(period: u64, phase: u64) -> Option<DueScans> {
+    if ![1, 2, 4, 8].contains(&period) || phase >= period {
+        return None;
+    }
+    let mut due = [false; 8];
+    let every = (phase as usize..8).step_by(period as usize);
+    every.for_each(|scan| due[scan] = true);
+    Some(due)
+}
+
+/// Adds a block's cells to the reads of each scan in which it is due.
+fn add_due(reads: &mut [usize; 8], due: &DueScans, cells: usize) {
+    for (count, due) in reads.iter_mut().zip(due) {
+        *count += if *due { cells } else { 0 };
+    }
 }
 
 /// One cell read off a block's records. Variables are listed topmost first.
@@ -138,7 +187,9 @@ pub struct Book {
     limit: u8,
     row_memory: usize,
     blocks: Vec<Block>,
-    words: Vec<u16>,
+    /// Latches since the last admission.
+    latches: usize,
+    words: Vec<Option<u16>>,
     rail_words: Vec<usize>,
     to_read: Vec<(usize, usize)>,
     set: Outputs,
@@ -151,6 +202,7 @@ impl Book {
             limit,
             row_memory,
             blocks: Vec::new(),
+            latches: 0,
             words: Vec::new(),
             rail_words: Vec::new(),
             to_read: Vec::new(),
@@ -160,7 +212,12 @@ impl Book {
 
     pub fn enter(&mut self, call: &Call) -> Said {
         match call {
-            Call::Admit { records, rows } => self.admit(records, rows),
+            Call::Admit {
+                records,
+                rows,
+                period,
+                phase,
+            } => self.admit(records, rows, due_scans(*period, *phase)),
             Call::Latch(words) => self.latch(words),
             Call::Step => self.step(),
         }
@@ -174,9 +231,28 @@ impl Book {
         self.blocks.len()
     }
 
-    /// The cells of all blocks in the book.
+    /// The cells of all blocks in the book, due or not.
     pub fn cell_count(&self) -> usize {
-        self.blocks.iter().map(|b| cells(&b.records).len()).sum()
+        self.blocks.iter().map(Block::cell_count).sum()
+    }
+
+    /// The cells that are due in each of the eight scans.
+    pub fn due_cells(&self) -> [usize; 8] {
+        let mut reads = [0; 8];
+        for block in &self.blocks {
+            add_due(&mut reads, &block.due, block.cell_count());
+        }
+        reads
+    }
+
+    /// The number of the running scan or of the last one; None with no latch since the last admission.
+    pub fn scan_number(&self) -> Option<usize> {
+        self.latches.checked_sub(1).map(|before| before % 8)
+    }
+
+    /// The scan limit S.
+    pub fn limit(&self) -> usize {
+        usize::from(self.limit)
     }
 
     /// The rows of all blocks in the book.
@@ -189,53 +265,65 @@ impl Book {
         &self.to_read
     }
 
-    /// Each block's word as last latched, bits above 11 left out; 0 for a block not latched yet.
-    pub fn words(&self) -> &[u16] {
+    /// Each block's word of its last due scan, bits above 11 left out; None for a block with no due scan since the last admission.
+    pub fn words(&self) -> &[Option<u16>] {
         &self.words
     }
 
-    fn refusal(&self, records: &[u8], rows: &[u8]) -> Option<u8> {
+    /// The due scans of a block that is taken in, or the refusal.
+    fn judged(&self, records: &[u8], rows: &[u8], due: Option<DueScans>) -> Result<DueScans, u8> {
         if !well_formed(records, rows) {
-            return Some(12);
+            return Err(12);
         }
+        let due = due.ok_or(16)?;
         if self.blocks.len() >= BLOCKS {
-            return Some(13);
+            return Err(13);
         }
-        if self.cell_count() + cells(records).len() > usize::from(self.limit) {
-            return Some(14);
+        let mut reads = self.due_cells();
+        add_due(&mut reads, &due, cells(records).len());
+        if reads.iter().any(|&count| count > self.limit()) {
+            return Err(14);
         }
         let rows_in_all = self.row_count() + rows.len() / 2;
         if 2 * rows_in_all > self.row_memory || rows_in_all > USABLE_ROWS {
-            return Some(11);
+            return Err(11);
         }
-        None
+        Ok(due)
     }
 
-    fn admit(&mut self, records: &[u8], rows: &[u8]) -> Said {
-        if let Some(number) = self.refusal(records, rows) {
-            return Said::Refused(number);
-        }
+    fn admit(&mut self, records: &[u8], rows: &[u8], due: Option<DueScans>) -> Said {
+        let due = match self.judged(records, rows, due) {
+            Ok(due) => due,
+            Err(number) => return Said::Refused(number),
+        };
         self.blocks.push(Block {
             records: records.to_vec(),
             rows: rows.to_vec(),
+            due,
         });
-        self.words.push(0);
-        self.rail_words = vec![0; self.blocks.len()];
+        let held = self.blocks.len();
+        self.latches = 0;
+        self.words = vec![None; held];
+        self.rail_words = vec![0; held];
         self.to_read.clear();
-        self.wipe();
+        self.set = vec![[None; 8]; held];
         Said::Accepted
     }
 
     fn latch(&mut self, words: &[u16; 8]) -> Said {
-        let held = self.blocks.len();
-        self.words = words[..held].iter().map(|word| word & 0x0FFF).collect();
-        self.rail_words = vec![0; held];
+        let scan = self.latches % 8;
+        self.latches += 1;
         self.to_read.clear();
         for (number, block) in self.blocks.iter().enumerate() {
-            let count = cells(&block.records).len();
+            if !block.due[scan] {
+                continue;
+            }
+            self.words[number] = Some(words[number] & 0x0FFF);
+            self.rail_words[number] = 0;
+            self.set[number] = [None; 8];
+            let count = block.cell_count();
             self.to_read.extend((0..count).map(|cell| (number, cell)));
         }
-        self.wipe();
         Said::Accepted
     }
 
@@ -247,9 +335,10 @@ impl Book {
         let shapes = cells(&self.blocks[block].records);
         let shape = &shapes[cell];
         let first: usize = shapes[..cell].iter().map(CellShape::row_count).sum();
+        let word = self.words[block].expect("a block that is read has its word");
         let mut address = self.rail_words[block];
         for input in &shape.inputs {
-            address = address * 2 + usize::from(self.words[block] >> input & 1);
+            address = address * 2 + usize::from(word >> input & 1);
         }
         let row = value_of_row(&self.blocks[block].rows, first + address);
         for (place, output) in shape.outputs.iter().rev().enumerate() {
@@ -261,9 +350,5 @@ impl Book {
             block: block as u8,
             cell: cell as u8,
         }
-    }
-
-    fn wipe(&mut self) {
-        self.set = vec![[None; 8]; self.blocks.len()];
     }
 }

@@ -1,5 +1,5 @@
 //! The seeded generator: jobs by family, sheets in other arrangements, lent memories, blocks, cascades made by hand, such with one-byte
-//! rows, and lists of bank calls, also as text.
+//! rows, periods with phases, and lists of bank calls, also as text.
 
 mod arranged;
 mod blocks;
@@ -10,6 +10,7 @@ mod dense;
 mod dependence;
 mod one_byte;
 mod pending;
+mod periods;
 mod plain;
 mod rails;
 mod random;
@@ -25,6 +26,7 @@ pub use calls::calls;
 pub use cascades::{cascade, known_but, longest_in_text, made, over_limit, Over, Rows, Shape};
 pub use damaged::Fault;
 pub use one_byte::{at_most, damage_one_byte, low_bytes, one_byte, Room};
+pub use periods::{right_period, Period, LARGE, RIGHT, WRONG};
 pub use random::Random;
 pub use texts::{bad_line, call_line, passed_over, respaced, respelt, text, BAD_LINES, BAD_MEMORY};
 

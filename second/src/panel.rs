@@ -1,6 +1,6 @@
 //! A bank with its scan state and row memory, called as the book is.
 
-use crate::bank::{self, Bank, Scan, Step, NOT_SET};
+use crate::bank::{self, Bank, Handed, Scan, Step, NOT_SET};
 use crate::book::{Call, Outputs, Said};
 use crate::fast;
 
@@ -26,13 +26,16 @@ impl Panel {
     /// The answer of the bank. Both steps must agree, and leave the same scan state.
     pub fn call(&mut self, call: &Call) -> Said {
         match call {
-            Call::Admit { records, rows } => numbered(bank::admit(
-                &mut self.bank,
-                &mut self.scan,
-                &mut self.rows,
+            Call::Admit {
                 records,
                 rows,
-            )),
+                period,
+                phase,
+            } => {
+                let handed = Handed::new(records, rows, (*period, *phase));
+                let (bank, scan) = (&mut self.bank, &mut self.scan);
+                numbered(bank::admit_every(bank, scan, &mut self.rows, handed))
+            }
             Call::Latch(words) => numbered(bank::latch(&self.bank, &mut self.scan, *words)),
             Call::Step => {
                 let mut scan = self.scan.clone();

@@ -1,6 +1,6 @@
 //! The bank: cases K and L, whole scans, the order of refusals. Damaged states are in the folder beside.
 
-use second::bank::{admit, admit_with, latch, new_bank, step, Bank, Mistake, Scan, Step};
+use second::bank::{admit, admit_with, latch, new_bank, step, Bank, Handed, Mistake, Scan, Step};
 use second::stored::{emit, rail_words};
 
 #[path = "bank_cases/damage.rs"]
@@ -77,13 +77,18 @@ fn making_a_bank() {
     let (mut bank, mut scan) = new_bank(255).unwrap();
     assert_eq!((bank.limit, bank.count, scan.running), (255, 0, false));
     assert_eq!((bank.lengths, bank.records), ([0; 8], [[0; 80]; 8]));
+    assert_eq!((bank.periods, bank.phases), ([0; 8], [0; 8]));
     assert_eq!((scan.words, scan.outputs), ([0; 8], [[2; 8]; 8]));
-    // With no block a latch leaves no reads and the state as new.
+    assert_eq!(scan.number, 7);
+    // With no block a latch leaves no reads, and the state as new but for the scan's number.
     let fresh = scan.clone();
     assert_eq!(step(&bank, &mut scan, &[]), Step::Idle);
-    assert_eq!(latch(&bank, &mut scan, [0xffff; 8]), Ok(()));
-    assert_eq!(step(&bank, &mut scan, &[]), Step::Idle);
-    assert_eq!(scan, fresh);
+    for number in [0, 1, 2, 3, 4, 5, 6, 7, 0, 1] {
+        assert_eq!(latch(&bank, &mut scan, [0xffff; 8]), Ok(()));
+        assert_eq!(step(&bank, &mut scan, &[]), Step::Idle);
+        let fresh = fresh.clone();
+        assert_eq!(scan, Scan { number, ..fresh });
+    }
     assert_eq!(
         admit(&mut bank, &mut scan, &mut [0], &ONE.0, &ONE.1),
         Err(11)
@@ -102,13 +107,16 @@ fn case_k() {
     assert_eq!(admitted(&mut held, &A_RECORDS, &A_ROWS), Err(14));
     // A newcomer's bank takes the block in, and then holds more cells than S.
     let (bank, scan, rows) = &mut mistaken;
-    let per_block = Mistake::ReadsPerBlock;
-    let answer = admit_with(bank, scan, rows, &A_RECORDS, &A_ROWS, per_block);
+    let (a, per_block) = (
+        Handed::new(&A_RECORDS, &A_ROWS, (1, 0)),
+        Mistake::ReadsPerBlock,
+    );
+    let answer = admit_with(bank, scan, rows, a, per_block);
     assert_eq!((answer, bank.count), (Ok(()), 2));
     assert_eq!(latch(bank, scan, [0; 8]), Err(12));
     // By itself a block over S is refused with the mistake too.
     let (bank, scan, rows) = &mut started(1, 100);
-    let answer = admit_with(bank, scan, rows, &A_RECORDS, &A_ROWS, per_block);
+    let answer = admit_with(bank, scan, rows, a, per_block);
     assert_eq!(answer, Err(14));
 }
 

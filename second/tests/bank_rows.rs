@@ -1,10 +1,12 @@
 //! Rows of two bytes in the bank (document 02, §6): row memory in pairs, cells of sixteen outputs, as many rows as a bank can hold,
 //! and mistakes that the book shows.
 
-use second::bank::{
-    admit, admit_with, latch, new_bank, step, step_with, Bank, Mistake, Scan, Step,
-};
-use second::book::{Book, Call, Outputs, Said};
+#[path = "differs/mod.rs"]
+mod differs;
+
+use differs::differs;
+use second::bank::{admit, latch, new_bank, step, Bank, Mistake, Scan, Step};
+use second::book::{Book, Call, Said};
 use second::cases::SIXTEEN_OUTPUTS;
 use second::fast;
 use second::generate::{
@@ -122,7 +124,7 @@ fn as_many_rows_as_a_bank_holds() {
         let mut book = Book::new(255, 70_000);
         for ((records, rows), said) in [(one.clone(), Said::Accepted), (largest, Said::Refused(11))]
         {
-            assert_eq!(book.enter(&Call::Admit { records, rows }), said);
+            assert_eq!(book.enter(&Call::admit(records, rows)), said);
         }
     }
 }
@@ -139,7 +141,7 @@ fn blocks_over_a_limit() {
         let block = over_limit(over, SEED, index);
         assert_eq!(with(&block, 80_000).err(), Some(12));
         let (records, rows) = block.clone();
-        let said = Book::new(255, 80_000).enter(&Call::Admit { records, rows });
+        let said = Book::new(255, 80_000).enter(&Call::admit(records, rows));
         assert_eq!(said, Said::Refused(12), "{over:?}");
         let (mut bank, mut scan) = new_bank(255).expect("S in range");
         bank.records[0][..block.0.len()].copy_from_slice(&block.0);
@@ -150,32 +152,6 @@ fn blocks_over_a_limit() {
         }
         assert_eq!(latch(&bank, &mut scan, [0; 8]), Err(12));
     }
-}
-
-/// Whether a bank with a mistake answers or sets anything else than the book.
-fn differs(mistake: Mistake, (limit, row_memory, list): &(u8, usize, Vec<Call>)) -> bool {
-    let (mut bank, mut scan) = new_bank(u64::from(*limit)).expect("S in range");
-    let mut held = vec![0; *row_memory];
-    let mut book = Book::new(*limit, *row_memory);
-    let numbered = |answer: Result<(), u8>| answer.map_or_else(Said::Refused, |()| Said::Accepted);
-    list.iter().any(|call| {
-        let said = match call {
-            Call::Admit { records, rows } => {
-                let (bank, scan) = (&mut bank, &mut scan);
-                numbered(admit_with(bank, scan, &mut held, records, rows, mistake))
-            }
-            Call::Latch(words) => numbered(latch(&bank, &mut scan, *words)),
-            Call::Step => match step_with(&bank, &mut scan, &held, mistake) {
-                Step::Went { block, cell } => Said::Went { block, cell },
-                Step::Idle => Said::Idle,
-                Step::Refused(number) => Said::Refused(number),
-            },
-        };
-        let value = |v: u8| (v < 2).then_some(v == 1);
-        let blocks = scan.outputs[..usize::from(bank.count)].iter();
-        let outputs: Outputs = blocks.map(|outputs| outputs.map(value)).collect();
-        said != book.enter(call) || outputs != book.outputs()
-    })
 }
 
 #[test]

@@ -12,10 +12,7 @@ const ROWS: [u8; 32] = [
 ];
 
 fn admit(records: &[u8], rows: &[u8]) -> Call {
-    Call::Admit {
-        records: records.to_vec(),
-        rows: rows.to_vec(),
-    }
+    Call::admit(records.to_vec(), rows.to_vec())
 }
 
 fn case_a() -> Call {
@@ -94,7 +91,7 @@ fn whole_scans() {
     for first in 0..16 {
         for second in 0..16 {
             assert_eq!(book.enter(&latch(first, second)), Said::Accepted);
-            assert_eq!(book.words(), [first, second]);
+            assert_eq!(book.words(), [Some(first), Some(second)]);
             assert_eq!(book.cells_to_read(), [(0, 0), (0, 1), (1, 0), (1, 1)]);
             assert_eq!(book.outputs(), [[None; 8]; 2]);
             assert_eq!(book.enter(&Call::Step), went(0, 0));
@@ -158,7 +155,7 @@ fn scan_dropped_by_a_latch() {
     assert_eq!(book.cells_to_read(), [(1, 1)]);
     assert_eq!(book.enter(&latch(7, 8)), Said::Accepted);
     assert_eq!(book.outputs(), [[None; 8]; 2]);
-    assert_eq!(book.words(), [7, 8]);
+    assert_eq!(book.words(), [Some(7), Some(8)]);
     assert_eq!(book.enter(&Call::Step), went(0, 0));
 }
 

@@ -5,9 +5,9 @@
 #[path = "second_equations/moves.rs"]
 mod moves;
 
-use second::bank::{admit, latch, new_bank, step, Bank, Scan, Step, NOT_SET};
+use second::bank::{admit_every, latch, new_bank, step, Bank, Handed, Scan, Step, NOT_SET};
 use second::book::{Book, Call, Outputs, Said};
-use second::generate::{block, calls, job, lent, Family, StoredBlock};
+use second::generate::{block, calls, job, lent, Family, StoredBlock, RIGHT};
 use second::job::{Answer, Job, Lent, Node};
 use second::plain;
 use std::collections::BTreeMap;
@@ -87,7 +87,15 @@ fn compile_equation(job: &Job, before: &Lent) -> (String, String) {
 
 fn call_text(call: &Call) -> String {
     match call {
-        Call::Admit { records, rows } => format!("admission {} {}", bytes(records), bytes(rows)),
+        Call::Admit {
+            records,
+            rows,
+            period,
+            phase,
+        } => {
+            let (records, rows) = (bytes(records), bytes(rows));
+            format!("admission (handed {records} {rows} {period} {phase})")
+        }
         Call::Latch(words) => format!("latching {}", list(words, |w| w.to_string())),
         Call::Step => "stepping".into(),
     }
@@ -114,7 +122,12 @@ fn made(bank: &mut Bank, scan: &mut Scan, rows: &mut [u8], call: &Call) -> Said 
         Call::Admit {
             records,
             rows: bytes,
-        } => plain(admit(bank, scan, rows, records, bytes)),
+            period,
+            phase,
+        } => {
+            let handed = Handed::new(records, bytes, (*period, *phase));
+            plain(admit_every(bank, scan, rows, handed))
+        }
         Call::Latch(words) => plain(latch(bank, scan, *words)),
         Call::Step => match step(bank, scan, rows) {
             Step::Went { block, cell } => Said::Went { block, cell },
@@ -178,15 +191,19 @@ fn blocks(seed: u64, index: u64) -> Vec<StoredBlock> {
 fn state_equation(seed: u64, index: u64) -> String {
     let (mut bank, mut scan) = new_bank(1 + index % 9).expect("S in range");
     let mut rows = vec![0; 800];
-    for (records, bytes) in blocks(seed, index) {
-        let _ = admit(&mut bank, &mut scan, &mut rows, &records, &bytes);
+    let pick = (seed ^ index).wrapping_mul(0x9E37_79B9_7F4A_7C15) >> 32;
+    for (place, (records, bytes)) in blocks(seed, index).iter().enumerate() {
+        let period = RIGHT[(pick >> (4 * place)) as usize % 15];
+        let handed = Handed::new(records, bytes, period);
+        let _ = admit_every(&mut bank, &mut scan, &mut rows, handed);
     }
-    let _ = latch(&bank, &mut scan, [0x0A5A; 8]);
+    for _ in 0..1 + pick % 9 {
+        let _ = latch(&bank, &mut scan, [0x0A5A; 8]);
+    }
     for _ in 0..index % 4 {
         step(&bank, &mut scan, &rows);
     }
-    let pick = (seed ^ index).wrapping_mul(0x9E37_79B9_7F4A_7C15) >> 32;
-    for change in [pick % 11, (pick >> 8) % 23] {
+    for change in [pick % 14, (pick >> 8) % 29] {
         let small = (pick >> 16) as u8 % 5;
         match change {
             0 => bank.limit = [0, 1, 2, 255, 256, 65_535][usize::from(small)],
@@ -200,15 +217,18 @@ fn state_equation(seed: u64, index: u64) -> String {
             8 => scan.rail = (pick >> 20) as u16 % 9,
             9 => scan.words = [0xFFFF; 8],
             10 => scan.outputs = [[77; 8]; 8],
+            11 => scan.number = [0, 1, 7, 8, 255][usize::from(small)],
+            12 => bank.periods[usize::from(small) % 3] = [0, 2, 3, 8, 16][usize::from(small)],
+            13 => bank.phases[usize::from(small) % 3] = [0, 1, 2, 4, 8][usize::from(small)],
             _ => {}
         }
     }
     let formed = latch(&bank, &mut scan.clone(), [0; 8]).is_ok();
     let numbers = |items: &[u16]| list(items, |w| w.to_string());
     format!(
-        "formed (record {{ limit = {}; count = {}; lengths = {}; records = {} }}) (record {{ running = {}; block = {}; cell = {}; rail = {}; words = {}; outputs = {} }}) ≡ {formed}",
-        bank.limit, bank.count, bytes(&bank.lengths), bytes(&bank.records.concat()),
-        scan.running, scan.block, scan.cell, scan.rail, numbers(&scan.words), bytes(&scan.outputs.concat())
+        "formed (record {{ limit = {}; count = {}; lengths = {}; records = {}; periods = {}; phases = {} }}) (record {{ running = {}; block = {}; cell = {}; rail = {}; words = {}; outputs = {}; number = {} }}) ≡ {formed}",
+        bank.limit, bank.count, bytes(&bank.lengths), bytes(&bank.records.concat()), bytes(&bank.periods), bytes(&bank.phases),
+        scan.running, scan.block, scan.cell, scan.rail, numbers(&scan.words), bytes(&scan.outputs.concat()), scan.number
     )
 }
 

@@ -88,26 +88,58 @@ fn records(bank: &Bank, place: usize) -> Option<&[u8]> {
     bank.records[place].get(..RECORD_BYTES * usize::from(bank.lengths[place]))
 }
 
+/// The byte of each of the eight scans in which a block is due is 1, the others are 0; None for a wrong period or phase.
+fn due_scans(period: u8, phase: u8) -> Option<u64> {
+    let scans: u64 = match period {
+        1 => 0x0101_0101_0101_0101,
+        2 => 0x0001_0001_0001_0001,
+        4 => 0x0000_0001_0000_0001,
+        8 => 0x0000_0000_0000_0001,
+        _ => return None,
+    };
+    (phase < period).then(|| scans << (8 * phase))
+}
+
+fn due_in(scans: u64, number: u8) -> bool {
+    scans >> (8 * number) & 1 == 1
+}
+
 fn held(bank: &Bank, scan: &Scan) -> Option<Held> {
     let count = usize::from(bank.count);
-    if !(1..=255).contains(&bank.limit) || count > bank.records.len() {
+    if !(1..=255).contains(&bank.limit) || count > bank.records.len() || scan.number > 7 {
         return None;
     }
-    let (mut cells, mut rows, mut next) = (0, 0, None);
+    // At most 160 cells are due in a scan, so a byte holds them.
+    let (mut due_cells, mut rows, mut next) = (0, 0, None);
     for place in 0..count {
         let block = block(records(bank, place)?, usize::from(scan.cell))?;
+        let scans = due_scans(bank.periods[place], bank.phases[place])?;
         if scan.running && place == usize::from(scan.block) {
+            if !due_in(scans, scan.number) {
+                return None;
+            }
             next = Some((rows, block.cells, block.found?));
         }
-        cells += block.cells;
+        due_cells += block.cells as u64 * scans;
         rows += block.rows;
     }
     let rail_held = match next {
         Some((_, _, cell)) => scan.rail >> cell.upper == 0,
         None => !scan.running,
     };
-    (cells <= usize::from(bank.limit) && rows <= MAX_ROWS && rail_held)
-        .then_some(Held { rows, next })
+    let cells_held = due_cells
+        .to_le_bytes()
+        .into_iter()
+        .all(|cells| u16::from(cells) <= bank.limit);
+    (cells_held && rows <= MAX_ROWS && rail_held).then_some(Held { rows, next })
+}
+
+/// The first block from this place on that is due in the scan.
+fn next_due(bank: &Bank, from: usize, number: u8) -> Option<usize> {
+    (from..usize::from(bank.count)).find(|&place| {
+        due_scans(bank.periods[place], bank.phases[place])
+            .is_some_and(|scans| due_in(scans, number))
+    })
 }
 
 /// As `bank::step`.
@@ -147,8 +179,9 @@ pub fn step(bank: &Bank, scan: &mut Scan, held_rows: &[u8]) -> Step {
         scan.cell += 1;
         scan.rail = row & ((1 << cell.lower) - 1);
     } else {
-        scan.running = place + 1 < usize::from(bank.count);
-        scan.block = if scan.running { scan.block + 1 } else { 0 };
+        let next = next_due(bank, place + 1, scan.number);
+        scan.running = next.is_some();
+        scan.block = next.unwrap_or(0) as u8;
         scan.cell = 0;
         scan.rail = 0;
     }

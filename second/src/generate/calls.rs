@@ -1,15 +1,53 @@
 //! Lists of calls on a bank: admissions, latches and steps, refused ones among them, broken off anywhere.
 
 use super::blocks::{damage, StoredBlock};
+use super::periods::{right_period, Period, WRONG};
 use super::random::Random;
 use crate::book::Call;
+
+/// A block with its period and phase.
+type Slow = (StoredBlock, Period);
 
 /// How many cells a well-formed block's records hold.
 fn cell_count(block: &StoredBlock) -> usize {
     block.0.chunks(4).filter(|record| record[1] == 1).count()
 }
 
-fn admission(random: &mut Random, blocks: &[StoredBlock], damaged: usize) -> Call {
+/// The cells of these blocks, whose periods are right, that are due in each of the eight scans.
+fn reads(blocks: &[Slow]) -> [usize; 8] {
+    let mut reads = [0; 8];
+    for (block, (period, phase)) in blocks {
+        let due = (*phase as usize..8).step_by(*period as usize);
+        due.for_each(|scan| reads[scan] += cell_count(block));
+    }
+    reads
+}
+
+/// How a list draws periods: how many in a hundred are not period 1, and how many are wrong.
+#[derive(Clone, Copy)]
+struct Chances {
+    other: usize,
+    wrong: usize,
+}
+
+impl Chances {
+    fn period(self, random: &mut Random) -> Period {
+        if random.percent(self.wrong) {
+            random.pick(&WRONG)
+        } else if random.percent(self.other) {
+            right_period(random)
+        } else {
+            (1, 0)
+        }
+    }
+}
+
+fn admission(
+    random: &mut Random,
+    blocks: &[StoredBlock],
+    damaged: usize,
+    chances: Chances,
+) -> Call {
     let (mut records, mut rows) = (Vec::new(), Vec::new());
     if !blocks.is_empty() {
         (records, rows) = blocks[random.below(blocks.len())].clone();
@@ -17,7 +55,7 @@ fn admission(random: &mut Random, blocks: &[StoredBlock], damaged: usize) -> Cal
             (records, rows) = damage(random.next(), 0, &(records, rows));
         }
     }
-    Call::Admit { records, rows }
+    Call::admit_every(records, rows, chances.period(random))
 }
 
 fn latch(random: &mut Random) -> Call {
@@ -26,10 +64,12 @@ fn latch(random: &mut Random) -> Call {
 }
 
 /// A scan limit S, a row memory length in bytes and a list of calls over the given well-formed blocks. S and the
-/// length are drawn around what some of the planned admissions need.
+/// length are drawn around what some of the planned admissions need. Two lists in five have period 1 alone.
 pub fn calls(seed: u64, index: u64, blocks: &[StoredBlock]) -> (u8, usize, Vec<Call>) {
     let mut random = Random::new(202, seed, index);
     let damaged = random.pick(&[0, 20, 50]);
+    let (other, wrong) = random.pick(&[(0, 0), (0, 0), (50, 0), (100, 0), (90, 15)]);
+    let chances = Chances { other, wrong };
     let mut calls = Vec::new();
     if random.percent(20) {
         calls.push(Call::Step);
@@ -37,11 +77,11 @@ pub fn calls(seed: u64, index: u64, blocks: &[StoredBlock]) -> (u8, usize, Vec<C
     let rounds = random.within(1, 12);
     let opening = random.pick(&[0, 1, 2, 3, 8, 11]);
     for _ in 0..opening {
-        calls.push(admission(&mut random, blocks, damaged));
+        calls.push(admission(&mut random, blocks, damaged, chances));
     }
     for _ in 0..rounds {
         match random.below(5) {
-            0 => calls.push(admission(&mut random, blocks, damaged)),
+            0 => calls.push(admission(&mut random, blocks, damaged, chances)),
             1 => calls.push(Call::Step),
             _ => {
                 calls.push(latch(&mut random));
@@ -55,13 +95,15 @@ pub fn calls(seed: u64, index: u64, blocks: &[StoredBlock]) -> (u8, usize, Vec<C
         calls.truncate(random.within(0, calls.len()));
     }
 
-    let held: Vec<StoredBlock> = planned(&mut random, &calls, blocks);
-    let cells: usize = held.iter().map(cell_count).sum();
-    let rows: usize = held.iter().map(|block| block.1.len()).sum();
-    let limit = match random.below(6) {
-        0 => cells,
-        1 => cells.saturating_sub(1),
-        2 => random.within(1, 255),
+    let held = planned(&mut random, &calls, blocks);
+    let due = reads(&held).into_iter().max().unwrap_or_default();
+    let cells: usize = held.iter().map(|(block, _)| cell_count(block)).sum();
+    let rows: usize = held.iter().map(|(block, _)| block.1.len()).sum();
+    let limit = match random.below(8) {
+        0 | 1 => due,
+        2 => due.saturating_sub(1),
+        3 => cells.saturating_sub(1),
+        4 => random.within(1, 255),
         _ => 255,
     };
     let any = random.within(0, rows);
@@ -75,14 +117,20 @@ pub fn calls(seed: u64, index: u64, blocks: &[StoredBlock]) -> (u8, usize, Vec<C
     (limit.clamp(1, 255) as u8, row_memory, calls)
 }
 
-/// The first few undamaged blocks the list admits.
-fn planned(random: &mut Random, calls: &[Call], blocks: &[StoredBlock]) -> Vec<StoredBlock> {
+/// The first few undamaged blocks that the list admits with a right period.
+fn planned(random: &mut Random, calls: &[Call], blocks: &[StoredBlock]) -> Vec<Slow> {
     let mut held = Vec::new();
     for call in calls {
-        if let Call::Admit { records, rows } = call {
+        if let Call::Admit {
+            records,
+            rows,
+            period,
+            phase,
+        } = call
+        {
             let block = (records.clone(), rows.clone());
-            if blocks.contains(&block) {
-                held.push(block);
+            if blocks.contains(&block) && !WRONG.contains(&(*period, *phase)) {
+                held.push((block, (*period, *phase)));
             }
         }
     }

@@ -91,7 +91,7 @@ pub const BAD_LINES: [&[u8]; 56] = [
 /// A call's line, latched words in small or in capital digits.
 pub fn call_line(call: &Call, capital: bool) -> String {
     match call {
-        Call::Admit { records, rows } => admit_line(records, rows),
+        Call::Admit { records, rows, .. } => admit_line(records, rows),
         Call::Latch(words) => {
             let words = words.map(|word| match capital {
                 true => format!("{word:04X}"),

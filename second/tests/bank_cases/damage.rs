@@ -2,6 +2,8 @@
 
 use super::{admitted, two, went, wider, A_RECORDS, A_ROWS, ONE};
 use second::bank::{admit, latch, new_bank, step, Bank, Scan, Step};
+use second::fast;
+use second::generate::RIGHT;
 use second::stored::cells;
 
 /// A running scan with the second cell of the second block next.
@@ -39,6 +41,7 @@ fn bank_damages() -> Vec<Change> {
         for place in 2..8 {
             bank.records[place] = bank.records[0];
             bank.lengths[place] = bank.lengths[0];
+            bank.periods[place] = 1;
         }
         bank.count = 9;
     }));
@@ -75,8 +78,33 @@ fn bank_damages() -> Vec<Change> {
         for place in 0..8 {
             bank.records[place][..48].copy_from_slice(&wider().0);
             bank.lengths[place] = 12;
+            bank.periods[place] = 1;
         }
     }));
+    // Scan numbers above 7, and wrong periods and phases of blocks held.
+    for number in [8, 9, 15, 16, 128, 255] {
+        list.push(change(move |_, scan| scan.number = number));
+    }
+    for place in 0..2 {
+        for (period, phase) in [
+            (0, 0),
+            (3, 0),
+            (5, 0),
+            (7, 0),
+            (9, 0),
+            (16, 0),
+            (255, 0),
+            (1, 1),
+            (2, 2),
+            (4, 4),
+            (8, 8),
+            (8, 255),
+        ] {
+            list.push(change(move |bank, _| {
+                (bank.periods[place], bank.phases[place]) = (period, phase);
+            }));
+        }
+    }
     list
 }
 
@@ -95,6 +123,17 @@ fn scan_damages() -> Vec<Change> {
     list.push(change(|_, scan| (scan.cell, scan.rail) = (0, 1)));
     list.push(change(|bank, _| bank.count = 1));
     list.push(change(|bank, _| bank.count = 0));
+    // The block to be read isn't due in scan 0, nor in scans 2, 4 and 6.
+    for (period, phase) in [(2, 1), (4, 1), (4, 2), (4, 3), (8, 1), (8, 7)] {
+        list.push(change(move |bank, _| {
+            (bank.periods[1], bank.phases[1]) = (period, phase);
+        }));
+    }
+    for number in [0, 2, 4, 6] {
+        list.push(change(move |bank, scan| {
+            (bank.periods[1], bank.phases[1], scan.number) = (2, 1, number);
+        }));
+    }
     list
 }
 
@@ -106,6 +145,8 @@ fn assert_refused(bank: &Bank, scan: &Scan, rows: &[u8]) {
         assert_eq!(admitted(&mut held, &[], &[]), Err(12));
         assert_eq!(latch(&held.0, &mut held.1, [3; 8]), Err(12));
         assert_eq!(step(&held.0, &mut held.1, &held.2), Step::Refused(12));
+        let quick = fast::step::step(&held.0, &mut held.1, &held.2);
+        assert_eq!(quick, Step::Refused(12));
         assert_eq!(held, before);
     }
 }
@@ -143,6 +184,8 @@ fn untested_parts_have_no_effect() {
     let (plain_bank, mut plain_scan) = (bank.clone(), scan.clone());
     bank.lengths[2..].fill(255);
     bank.records[2..].fill([255; 80]);
+    bank.periods[2..].fill(3);
+    bank.phases[2..].fill(255);
     bank.records[0][24..].fill(255);
     scan.words[2..].fill(0xffff);
     scan.words[1] |= 0xf000;
@@ -171,6 +214,8 @@ fn untested_parts_have_no_effect() {
         Ok(())
     );
     assert_eq!((bank.lengths[2], &bank.records[2][..4]), (1, &ONE.0[..]));
+    assert_eq!(bank.periods, [1, 1, 1, 3, 3, 3, 3, 3]);
+    assert_eq!(bank.phases, [0, 0, 0, 255, 255, 255, 255, 255]);
     assert_eq!(
         (&bank.records[2][4..], bank.records[3]),
         (&[255; 76][..], [255; 80])
@@ -205,16 +250,29 @@ fn plainly_damaged(bank: &Bank, scan: &Scan) -> bool {
             None => return true,
         }
     }
+    let periods = bank.periods.iter().zip(&bank.phases).take(blocks.len());
+    for (period, phase) in periods {
+        if ![1, 2, 4, 8].contains(period) || phase >= period {
+            return true;
+        }
+    }
     let rows: usize = blocks.iter().flatten().map(|cell| cell.rows).sum();
-    let count = blocks.iter().flatten().count();
-    if rows > 32_768 || count > usize::from(bank.limit) {
-        return true;
+    let due = |place: usize, scan: u8| scan % bank.periods[place] == bank.phases[place];
+    for scan in 0..8 {
+        let places = (0..blocks.len()).filter(|&place| due(place, scan));
+        let count: usize = places.map(|place| blocks[place].len()).sum();
+        if count > usize::from(bank.limit) {
+            return true;
+        }
     }
     let (block, cell) = (usize::from(scan.block), usize::from(scan.cell));
-    scan.running
-        && (block >= blocks.len()
+    let outside = || {
+        block >= blocks.len()
             || cell >= blocks[block].len()
-            || u32::from(scan.rail) >= 1 << blocks[block][cell].upper_rails)
+            || u32::from(scan.rail) >= 1 << blocks[block][cell].upper_rails
+            || !due(block, scan.number)
+    };
+    rows > 32_768 || scan.number > 7 || scan.running && outside()
 }
 
 #[test]
@@ -232,8 +290,8 @@ fn random_damage() {
         for _ in 0..1 + roll(3) {
             let byte = [0, 1, 2, 3, 4, 6, 8, 9, 128, 255][roll(10) as usize];
             let place = roll(8) as usize;
-            match roll(9) {
-                0 => bank.limit = [0, 3, 4, 255, 256, 65_535][roll(6) as usize],
+            match roll(12) {
+                0 => bank.limit = [0, 2, 3, 4, 255, 256, 65_535][roll(7) as usize],
                 1 => bank.count = byte,
                 2 => bank.lengths[place] = byte,
                 3 => bank.records[place % 2][roll(80) as usize] = byte,
@@ -241,6 +299,12 @@ fn random_damage() {
                 5 => scan.block = byte,
                 6 => scan.cell = byte,
                 7 => scan.rail = u16::from(byte) << roll(9),
+                8 => scan.number = byte,
+                9 => bank.periods[place % 2] = byte,
+                10 => {
+                    let (period, phase) = RIGHT[roll(15) as usize];
+                    (bank.periods[place % 2], bank.phases[place % 2]) = (period as u8, phase as u8);
+                }
                 _ => scan.words[place] = roll(65_536) as u16,
             }
         }
@@ -252,7 +316,10 @@ fn random_damage() {
         }
         good += 1;
         let before = scan.clone();
+        let mut quick = scan.clone();
+        let quick_answer = fast::step::step(&bank, &mut quick, &rows[..length]);
         let answer = step(&bank, &mut scan, &rows[..length]);
+        assert_eq!((quick_answer, &quick), (answer, &scan));
         let held = bank.records.iter().zip(&bank.lengths);
         let need: usize = held
             .take(usize::from(bank.count))

@@ -291,7 +291,7 @@ fn lists_back_and_up() {
         for call in list {
             let line = call_line(&call, false);
             let line_after = match call {
-                Call::Admit { records, rows } => moved(Way::Narrow, &(records, rows))
+                Call::Admit { records, rows, .. } => moved(Way::Narrow, &(records, rows))
                     .map(|(records, rows)| admit(&records, &rows)),
                 _ => Ok(line.clone()),
             };
