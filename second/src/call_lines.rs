@@ -13,6 +13,7 @@ pub const WORD_BYTES: usize = 65_535;
 pub const MEMORY_BYTES: u32 = 65_536;
 
 const MOST_LIMIT: u32 = 65_535;
+const MOST_PERIOD: u32 = 255;
 
 /// What a line after the first says.
 #[derive(Debug, PartialEq, Eq)]
@@ -20,7 +21,12 @@ pub enum Line {
     /// Passed over.
     Nothing,
     Bank(u64),
-    Admit(Vec<u8>, Vec<u8>),
+    Admit {
+        records: Vec<u8>,
+        rows: Vec<u8>,
+        period: u64,
+        phase: u64,
+    },
     Latch([u16; PLACES]),
     Step,
 }
@@ -32,9 +38,9 @@ pub fn words(line: &[u8]) -> Vec<&[u8]> {
         .collect()
 }
 
-/// One to five digits in base 10.
-fn number(text: &[u8], most: u32) -> Option<u32> {
-    if !(1..=5).contains(&text.len()) || !text.iter().all(u8::is_ascii_digit) {
+/// One to so many digits in base 10.
+fn number(text: &[u8], most_digits: usize, most: u32) -> Option<u32> {
+    if !(1..=most_digits).contains(&text.len()) || !text.iter().all(u8::is_ascii_digit) {
         return None;
     }
     let value = text
@@ -78,17 +84,27 @@ fn latched(texts: &[&[u8]]) -> Option<[u16; PLACES]> {
 /// The first line's number, which is at most `most`.
 pub fn read_memory(line: &[u8], most: u32) -> Option<u32> {
     match words(line)[..] {
-        [b"memory", n] => number(n, most),
+        [b"memory", n] => number(n, 5, most),
         _ => None,
     }
+}
+
+fn admitted(records: &[u8], rows: &[u8], period: &[u8], phase: &[u8]) -> Option<Line> {
+    Some(Line::Admit {
+        records: bytes(records)?,
+        rows: bytes(rows)?,
+        period: number(period, 3, MOST_PERIOD)?.into(),
+        phase: number(phase, 3, MOST_PERIOD)?.into(),
+    })
 }
 
 /// A line after the first; None for one that can't be read.
 pub fn read_line(line: &[u8]) -> Option<Line> {
     match words(line)[..] {
         [] | [[b'#', ..], ..] => Some(Line::Nothing),
-        [b"bank", limit] => number(limit, MOST_LIMIT).map(|limit| Line::Bank(limit.into())),
-        [b"admit", records, rows] => Some(Line::Admit(bytes(records)?, bytes(rows)?)),
+        [b"bank", limit] => number(limit, 5, MOST_LIMIT).map(|limit| Line::Bank(limit.into())),
+        [b"admit", records, rows] => admitted(records, rows, b"1", b"0"),
+        [b"admit", records, rows, period, phase] => admitted(records, rows, period, phase),
         [b"latch", ref texts @ ..] => latched(texts).map(Line::Latch),
         [b"step"] => Some(Line::Step),
         _ => None,
@@ -110,7 +126,8 @@ pub fn line_not_understood(place: usize, line: &[u8]) -> String {
         ("bank", "bank S, where S is one to five digits and at most 65535"),
         (
             "admit",
-            "admit RECORDS ROWS, each in base 16, two digits a byte and at most 65535 bytes, or - for none",
+            "admit RECORDS ROWS or admit RECORDS ROWS PERIOD PHASE, where RECORDS and ROWS are in base 16, two digits a byte and at most \
+             65535 bytes, or - for none, and PERIOD and PHASE one to three digits and at most 255",
         ),
         ("latch", "latch and eight words of four digits in base 16"),
         ("step", "step and nothing after it"),
@@ -141,7 +158,12 @@ pub fn word_of(bytes: &[u8]) -> String {
     }
 }
 
-/// The line that admits a block.
+/// The line that admits a block to be read in every scan.
 pub fn admit_line(records: &[u8], rows: &[u8]) -> String {
     format!("admit {} {}", word_of(records), word_of(rows))
+}
+
+/// The line that admits a block with its period and phase.
+pub fn admit_every_line(records: &[u8], rows: &[u8], (period, phase): (u64, u64)) -> String {
+    format!("{} {period} {phase}", admit_line(records, rows))
 }

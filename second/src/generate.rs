@@ -28,7 +28,9 @@ pub use damaged::Fault;
 pub use one_byte::{at_most, damage_one_byte, low_bytes, one_byte, Room};
 pub use periods::{right_period, Period, LARGE, RIGHT, WRONG};
 pub use random::Random;
-pub use texts::{bad_line, call_line, passed_over, respaced, respelt, text, BAD_LINES, BAD_MEMORY};
+pub use texts::{
+    bad_line, call_line, passed_over, period_spelt, respaced, respelt, text, BAD_LINES, BAD_MEMORY,
+};
 
 use crate::job::{Job, Lent, Node};
 use plain::Free;

@@ -1,8 +1,8 @@
 //! What a program prints of a list of bank calls as text whose blocks' rows are moved (docs/REPLAY.md, with one byte a row).
 //!
-//! The first line gets the bytes that as many rows need, and an admission its rows moved, in small digits, or it becomes `refused N`.
-//! Every other line that `replay` can read, also one that is passed over, keeps its words, parted by one space. After a line that can't
-//! be read nothing is printed.
+//! The first line gets the bytes that as many rows need, and an admission its rows moved, in small digits, or it becomes `refused N`;
+//! its period and phase stay as they are spelt and are not judged. Every other line that `replay` can read, also one that is passed
+//! over, keeps its words, parted by one space. After a line that can't be read nothing is printed.
 
 use crate::call_lines::{
     admit_line, first_not_understood, input_over, line_not_understood, read_line, read_memory,
@@ -24,20 +24,23 @@ fn first_line(line: &[u8], way: Way) -> Result<Vec<u8>, String> {
     Ok(format!("memory {}", way.row_bytes(memory as usize)).into_bytes())
 }
 
-fn admission(records: &[u8], rows: &[u8], way: Way) -> String {
+/// `last` are the words after the rows.
+fn admission(records: &[u8], rows: &[u8], last: &[&[u8]], way: Way) -> Vec<u8> {
     let mut to_records = vec![0; records.len()];
     let mut to_rows = vec![0; way.row_bytes(rows.len())];
-    match way.run(records, rows, &mut to_records, &mut to_rows) {
+    let moved = match way.run(records, rows, &mut to_records, &mut to_rows) {
         0 => admit_line(&to_records, &to_rows),
-        refusal => format!("refused {refusal}"),
-    }
+        refusal => return format!("refused {refusal}").into_bytes(),
+    };
+    [&[moved.as_bytes()], last].concat().join(&b' ')
 }
 
 /// A line after the first.
 fn call_line(line: &[u8], place: usize, way: Way) -> Result<Vec<u8>, String> {
+    let words = words(line);
     match read_line(line) {
-        Some(Line::Admit(records, rows)) => Ok(admission(&records, &rows, way).into_bytes()),
-        Some(_) => Ok(words(line).join(&b' ')),
+        Some(Line::Admit { records, rows, .. }) => Ok(admission(&records, &rows, &words[3..], way)),
+        Some(_) => Ok(words.join(&b' ')),
         None => Err(line_not_understood(place, line)),
     }
 }

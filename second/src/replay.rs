@@ -4,7 +4,7 @@
 //! `1`, or `.` for not set. With no bank made yet every call but `bank` is refused with 12; a `bank` that is refused keeps the bank that
 //! stood before. A line that can't be read ends the list, and is told of after the calls before it.
 
-use crate::bank::{self, Bank, Scan, Step};
+use crate::bank::{self, Bank, Handed, Scan, Step};
 use crate::call_lines::{
     first_not_understood, input_over, line_not_understood, read_line, read_memory, Line,
     MEMORY_BYTES, TEXT_BYTES,
@@ -35,7 +35,15 @@ fn run(held: &mut Option<Held>, rows: &mut [u8], call: &Line) -> String {
         return "refused 12".to_string();
     };
     match call {
-        Line::Admit(records, bytes) => accepted(bank::admit(bank, scan, rows, records, bytes)),
+        Line::Admit {
+            records,
+            rows: bytes,
+            period,
+            phase,
+        } => {
+            let handed = Handed::new(records, bytes, (*period, *phase));
+            accepted(bank::admit_every(bank, scan, rows, handed))
+        }
         Line::Latch(words) => accepted(bank::latch(bank, scan, *words)),
         _ => match bank::step(bank, scan, rows) {
             Step::Went { block, cell } => format!("went {block} {cell}"),

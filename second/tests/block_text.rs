@@ -60,7 +60,13 @@ fn read_again() {
             };
             let line = text.strip_suffix('\n').expect("a line");
             let read = read_line(line.as_bytes());
-            assert_eq!(read, Some(Line::Admit(records, rows)));
+            let due_always = Line::Admit {
+                records,
+                rows,
+                period: 1,
+                phase: 0,
+            };
+            assert_eq!(read, Some(due_always));
             let list = format!("memory 65536\nbank 255\n{text}");
             assert_eq!(replay::printed(list.as_bytes()), "ok\nok 0:........\n");
             admitted += 1;

@@ -6,7 +6,7 @@ mod limits;
 #[path = "replay/lines.rs"]
 mod lines;
 
-use second::generate::{block, call_line, calls, passed_over, respelt, text, Random};
+use second::generate::{block, call_line, calls, passed_over, period_spelt, respelt, text, Random};
 use second::replay::printed;
 use second::run::output_of;
 
@@ -18,8 +18,8 @@ const BLOCK: &str = "000000000100000002010200800000000300000081010000 \
 
 const MEMORY: &str = "memory N, where N is one to five digits and at most 65536";
 const BANK: &str = "bank S, where S is one to five digits and at most 65535";
-const ADMIT: &str =
-    "admit RECORDS ROWS, each in base 16, two digits a byte and at most 65535 bytes, or - for none";
+const ADMIT: &str = "admit RECORDS ROWS or admit RECORDS ROWS PERIOD PHASE, where RECORDS and ROWS are in base 16, two digits a byte \
+                     and at most 65535 bytes, or - for none, and PERIOD and PHASE one to three digits and at most 255";
 const LATCH: &str = "latch and eight words of four digits in base 16";
 const STEP: &str = "step and nothing after it";
 const OTHER: &str = "bank, admit, latch or step";
@@ -83,6 +83,31 @@ fn rows_of_two_bytes() {
     );
 }
 
+/// The block with period 2 and phase 1 is read in every other scan, and keeps its outputs in the scans between.
+#[test]
+fn slow_blocks() {
+    let word = |word: &str| format!("latch{}\n", format!(" {word}").repeat(8));
+    let (latch_d, latch_0) = (word("000d"), word("0000"));
+    let text = format!(
+        "memory 64\nbank 2\nadmit {BLOCK} 2 1\n{latch_d}step\n{latch_d}step\nstep\nstep\n{latch_0}step\nadmit {BLOCK} 3 0\n\
+         admit {BLOCK} 2 2\nadmit {BLOCK} 4 3\nadmit {BLOCK}\n{latch_0}step\n{latch_d}{latch_d}{latch_0}step\n"
+    );
+    let expected = "ok\nok 0:........\nok 0:........\nidle 0:........\n\
+                    ok 0:........\nwent 0 0 0:........\nwent 0 1 0:10......\nidle 0:10......\n\
+                    ok 0:10......\nidle 0:10......\nrefused 16 0:10......\nrefused 16 0:10......\n\
+                    refused 14 0:10......\nrefused 14 0:10......\n\
+                    ok 0:........\nwent 0 0 0:........\nok 0:........\nok 0:........\nok 0:........\nidle 0:........\n";
+    assert_eq!(both(text.as_bytes()), expected);
+    // In scan 0 there is room for another one; the admission numbers the scans anew.
+    let text = format!(
+        "memory 64\nbank 2\nadmit {BLOCK} 002 01\n{latch_d}{latch_d}admit {BLOCK} 8 000\n{latch_d}step\nstep\nstep\n{latch_d}step\nstep\n"
+    );
+    let expected = "ok\nok 0:........\nok 0:........\nok 0:........\nok 0:........ 1:........\n\
+                    ok 0:........ 1:........\nwent 1 0 0:........ 1:........\nwent 1 1 0:........ 1:10......\nidle 0:........ 1:10......\n\
+                    ok 0:........ 1:10......\nwent 0 0 0:........ 1:10......\nwent 0 1 0:10...... 1:10......\n";
+    assert_eq!(both(text.as_bytes()), expected);
+}
+
 /// A bank made anew holds no block.
 #[test]
 fn a_bank_made_anew() {
@@ -101,7 +126,7 @@ fn a_bank_made_anew() {
 #[test]
 fn spellings_of_a_list() {
     let random = &mut Random::new(1, 31, 0);
-    let mut accepted = 0;
+    let (mut accepted, mut periods) = (0, 0);
     for index in 0..300 {
         let blocks: Vec<_> = (4 * index..4 * index + 4)
             .map(|place| block(31, place))
@@ -126,6 +151,12 @@ fn spellings_of_a_list() {
                 more.push(passed_over(random));
             }
         }
+        for line in more.iter_mut().filter(|line| line.starts_with(b"admit ")) {
+            let plain = String::from_utf8_lossy(line);
+            let other = period_spelt(random, &plain).into_bytes();
+            periods += usize::from(other != *line);
+            *line = other;
+        }
         let spelt = respelt(random, &more);
         assert_eq!(
             printed(&spelt),
@@ -134,5 +165,5 @@ fn spellings_of_a_list() {
             String::from_utf8_lossy(&spelt)
         );
     }
-    assert!(accepted > 500, "{accepted}");
+    assert!(accepted > 500 && periods > 300, "{accepted} {periods}");
 }

@@ -2,7 +2,7 @@
 
 use super::random::Random;
 use crate::book::Call;
-use crate::call_lines::{admit_line, words};
+use crate::call_lines::{admit_every_line, admit_line, words};
 
 /// Lines that are no first line.
 pub const BAD_MEMORY: [&[u8]; 20] = [
@@ -29,7 +29,7 @@ pub const BAD_MEMORY: [&[u8]; 20] = [
 ];
 
 /// Lines that can't stand after the first one.
-pub const BAD_LINES: [&[u8]; 56] = [
+pub const BAD_LINES: [&[u8]; 72] = [
     b"bank",
     b"bank ",
     b" bank\t",
@@ -57,6 +57,22 @@ pub const BAD_LINES: [&[u8]; 56] = [
     b"admit -- -",
     b"admit - 00-",
     b"admit 0\x0000 -",
+    b"admit - - 1",
+    b"admit - - 1 0 0",
+    b"admit - - 1 0 #",
+    b"admit - - 256 0",
+    b"admit - - 1 256",
+    b"admit - - 999 0",
+    b"admit - - 0001 0",
+    b"admit - - 1 0000",
+    b"admit - - a 0",
+    b"admit - - 1 f",
+    b"admit - - - 0",
+    b"admit - - 1 -",
+    b"admit - - -1 0",
+    b"admit - - 1 +0",
+    b"admit 0 - 1 0",
+    b"admit - 0g 1 0",
     b"admit-- -",
     b"admits - -",
     b"latch",
@@ -88,10 +104,21 @@ pub const BAD_LINES: [&[u8]; 56] = [
     b"\xFF",
 ];
 
-/// A call's line, latched words in small or in capital digits.
+/// A call's line, latched words in small or in capital digits. Period 1 with phase 0 is left out.
 pub fn call_line(call: &Call, capital: bool) -> String {
     match call {
-        Call::Admit { records, rows, .. } => admit_line(records, rows),
+        Call::Admit {
+            records,
+            rows,
+            period: 1,
+            phase: 0,
+        } => admit_line(records, rows),
+        Call::Admit {
+            records,
+            rows,
+            period,
+            phase,
+        } => admit_every_line(records, rows, (*period, *phase)),
         Call::Latch(words) => {
             let words = words.map(|word| match capital {
                 true => format!("{word:04X}"),
@@ -101,6 +128,24 @@ pub fn call_line(call: &Call, capital: bool) -> String {
         }
         Call::Step => "step".to_string(),
     }
+}
+
+/// An admission's line with period and phase in other spellings: zeros before them, or 1 and 0 said where they were left out. Every
+/// other line stays.
+pub fn period_spelt(random: &mut Random, line: &str) -> String {
+    let mut words: Vec<&str> = line.split(' ').collect();
+    if words[0] != "admit" || random.coin() {
+        return line.to_string();
+    }
+    if words.len() == 3 {
+        words.extend(["1", "0"]);
+    }
+    let last = words.split_off(3).into_iter().map(|word| {
+        let zeros = random.within(0, 3usize.saturating_sub(word.len()));
+        format!("{}{word}", "0".repeat(zeros))
+    });
+    let last: Vec<String> = last.collect();
+    format!("{} {}", words.join(" "), last.join(" "))
 }
 
 /// A line that is passed over: empty, or a remark of any bytes with one space between its words.
@@ -124,6 +169,7 @@ pub fn bad_line(random: &mut Random) -> Vec<u8> {
     let good: &[u8] = random.pick(&[
         b"bank 255",
         b"admit 00ff 0100",
+        b"admit 00ff 0100 8 255",
         b"latch 0000 0001 0002 0003 0004 0005 0006 0007",
         b"step",
     ]);

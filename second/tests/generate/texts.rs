@@ -1,7 +1,10 @@
 //! Lists of calls as text: what the generator promises of its lines.
 
 use second::call_lines::{read_line, read_memory, words, Line};
-use second::generate::{bad_line, passed_over, respaced, respelt, Random, BAD_LINES, BAD_MEMORY};
+use second::generate::{
+    bad_line, passed_over, period_spelt, respaced, respelt, Random, BAD_LINES, BAD_MEMORY,
+};
+use std::collections::BTreeSet;
 
 #[test]
 fn lines_of_each_kind() {
@@ -55,4 +58,25 @@ fn spellings() {
         counts.iter().all(|count| (100..900).contains(count)),
         "{counts:?}"
     );
+}
+
+/// Zeros come before period and phase, and 1 and 0 are said or left out; the line says the same.
+#[test]
+fn spellings_of_periods() {
+    let random = &mut Random::new(6, 31, 0);
+    for (line, spellings) in [
+        ("admit 0a -", 10),
+        ("admit - 0a 8 7", 9),
+        ("admit - 0a 16 0", 6),
+        ("admit - - 255 128", 1),
+        ("step", 1),
+        ("bank 1", 1),
+    ] {
+        let spelt: BTreeSet<String> = (0..500).map(|_| period_spelt(random, line)).collect();
+        assert_eq!(spelt.len(), spellings, "{spelt:?}");
+        for spelt in spelt {
+            let read = read_line(spelt.as_bytes());
+            assert!(read.is_some() && read == read_line(line.as_bytes()));
+        }
+    }
 }

@@ -4,8 +4,8 @@ use super::{moved, of_outputs, A_NARROW, A_RECORDS, A_WIDE, SEED};
 use second::book::Call;
 use second::call_lines::admit_line as admit;
 use second::generate::{
-    bad_line, block, call_line, calls, respaced, row_bytes, Random, StoredBlock, BAD_LINES,
-    BAD_MEMORY,
+    bad_line, block, call_line, calls, period_spelt, respaced, row_bytes, Random, StoredBlock,
+    BAD_LINES, BAD_MEMORY,
 };
 use second::move_text::printed;
 use second::moves::Way;
@@ -36,7 +36,8 @@ fn expected(line: &[u8]) -> &'static str {
     match begin {
         _ if begin.starts_with("bank") => "bank S, where S is one to five digits and at most 65535",
         _ if begin.starts_with("admit") => {
-            "admit RECORDS ROWS, each in base 16, two digits a byte and at most 65535 bytes, or - for none"
+            "admit RECORDS ROWS or admit RECORDS ROWS PERIOD PHASE, where RECORDS and ROWS are in base 16, two digits a byte and at most \
+             65535 bytes, or - for none, and PERIOD and PHASE one to three digits and at most 255"
         }
         _ if begin.starts_with("latch") => "latch and eight words of four digits in base 16",
         _ if begin.starts_with("step") => "step and nothing after it",
@@ -90,6 +91,34 @@ fn more_than_eight_outputs() {
     let narrow = format!("memory 1\n{}\n", admit(&records, &vec![0; values.len()]));
     let refused = "memory 2\nrefused 12\n";
     assert_eq!(both(Way::Widen, narrow.as_bytes()), refused);
+}
+
+/// Period and phase stay as they are spelt, right or wrong; of a block that can't be moved nothing stays.
+#[test]
+fn periods() {
+    let (narrow, wide) = (admit(&A_RECORDS, &A_NARROW), admit(&A_RECORDS, &A_WIDE));
+    for last in [
+        "1 0", "8 7", "08 007", "001 00", "3 0", "0 0", "255 255", "16 4", "2 2",
+    ] {
+        for between in [" ", "\t", "  \r "] {
+            let spelt = format!(" {narrow} {last}\r").replace(' ', between);
+            let text =
+                format!("memory 16\nbank 9\n{spelt}\nadmit - - {last}\nadmit - -\n{narrow}\n");
+            let refused = "refused 12\n".repeat(2);
+            let expected = format!("memory 32\nbank 9\n{wide} {last}\n{refused}{wide}\n");
+            assert_eq!(both(Way::Widen, text.as_bytes()), expected, "{last}");
+        }
+        let text = format!("memory 32\n{wide} {last}\n{narrow} {last}");
+        let expected = format!("memory 16\n{narrow} {last}\nrefused 12\n");
+        assert_eq!(both(Way::Narrow, text.as_bytes()), expected, "{last}");
+    }
+    for last in [
+        "1", "1 0 0", "256 0", "1 256", "0001 0", "1 0000", "a 0", "1 -", "-1 0", "1 #",
+    ] {
+        let text = format!("memory 16\n{narrow} {last}\n");
+        let told = format!("memory 32\n{}", not_understood(2, expected(b"admit")));
+        assert_eq!(both(Way::Widen, text.as_bytes()), told, "{last}");
+    }
 }
 
 #[test]
@@ -277,7 +306,8 @@ fn long_admissions() {
 /// again is the list.
 #[test]
 fn lists_back_and_up() {
-    let (mut kept, mut refused) = (0, 0);
+    let random = &mut Random::new(5, SEED, 0);
+    let (mut kept, mut refused, mut slow) = (0, 0, 0);
     for index in 0..400 {
         let blocks: Vec<StoredBlock> = (6 * index..6 * index + 6)
             .map(|place| block(SEED, place))
@@ -289,10 +319,16 @@ fn lists_back_and_up() {
         let (mut text, mut expected) = (head(2 * memory), head(memory));
         let mut movable = text.clone();
         for call in list {
-            let line = call_line(&call, false);
+            let line = period_spelt(random, &call_line(&call, false));
             let line_after = match call {
-                Call::Admit { records, rows, .. } => moved(Way::Narrow, &(records, rows))
-                    .map(|(records, rows)| admit(&records, &rows)),
+                Call::Admit { records, rows, .. } => {
+                    let last: Vec<&str> = line.split(' ').skip(3).collect();
+                    slow += usize::from(!last.is_empty());
+                    moved(Way::Narrow, &(records, rows)).map(|(records, rows)| {
+                        let moved = admit(&records, &rows);
+                        [&[&moved[..]], &last[..]].concat().join(" ")
+                    })
+                }
                 _ => Ok(line.clone()),
             };
             text += &format!("{line}\n");
@@ -312,8 +348,9 @@ fn lists_back_and_up() {
         let narrow = both(Way::Narrow, movable.as_bytes());
         assert_eq!(both(Way::Widen, narrow.as_bytes()), movable);
     }
-    println!("{kept} admissions moved, {refused} refused");
+    println!("{kept} admissions moved, {refused} refused, {slow} with period and phase");
     assert!(kept > 200 && refused > 200, "{kept} {refused}");
+    assert!(slow > 200, "{slow}");
 }
 
 #[test]

@@ -32,6 +32,15 @@ fn good_lines() {
         ("admit 00 -", "refused 12"),
         ("admit - 00", "refused 12"),
         ("admit aF Fa", "refused 12"),
+        ("admit - - 1 0", "refused 12"),
+        ("admit 00 0F 255 255", "refused 12"),
+        ("admit 80010000 0100 3 0", "refused 16"),
+        ("admit 80010000 0100 0 0", "refused 16"),
+        ("admit 80010000 0100 255 000", "refused 16"),
+        ("admit 80010000 0100 8 008", "refused 16"),
+        ("admit 80010000 0100 1 0", "ok 0:........"),
+        ("admit 80010000 0100 001 000", "ok 0:........"),
+        ("admit 80010000 0100 08 7", "ok 0:........"),
         (&latch, "ok"),
         ("step", "idle"),
     ] {
@@ -198,12 +207,16 @@ fn every_byte() {
     for byte in (0..=255u8).filter(|&byte| byte != b'\n') {
         let blank = matches!(byte, b' ' | b'\t' | b'\r');
         let digit = byte.is_ascii_hexdigit();
+        let number = byte.is_ascii_digit();
         for (before, after, good, answer, expected) in [
             ("", "\nbank 1", blank || byte == b'#', "ok\n", OTHER),
             ("bank", "1", blank, "ok\n", BANK),
             ("bank 00", "1", byte.is_ascii_digit(), "", BANK),
             ("admit 0", " -", digit, "refused 12\n", ADMIT),
             ("admit -", "-", blank, "refused 12\n", ADMIT),
+            ("admit - - ", " 0", number, "refused 12\n", ADMIT),
+            ("admit - - 1 0", "2", number, "refused 12\n", ADMIT),
+            ("admit - - 1", "2", blank, "refused 12\n", ADMIT),
             ("latch 000", &zeros, digit, "refused 12\n", LATCH),
             ("step", "", blank, "refused 12\n", STEP),
             ("", "step", blank, "refused 12\n", OTHER),
