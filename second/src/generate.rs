@@ -14,6 +14,7 @@ mod periods;
 mod plain;
 mod rails;
 mod random;
+mod scans;
 mod sheet;
 mod stop;
 mod stop_faults;
@@ -28,6 +29,7 @@ pub use damaged::Fault;
 pub use one_byte::{at_most, damage_one_byte, low_bytes, one_byte, Room};
 pub use periods::{right_period, Period, LARGE, RIGHT, WRONG};
 pub use random::Random;
+pub use scans::{scans, Scans};
 pub use texts::{
     bad_line, call_line, passed_over, period_spelt, respaced, respelt, text, BAD_LINES, BAD_MEMORY,
 };

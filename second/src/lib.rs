@@ -17,3 +17,4 @@ pub mod plain;
 pub mod replay;
 pub mod run;
 pub mod stored;
+pub mod tally;

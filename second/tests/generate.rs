@@ -1,15 +1,19 @@
 //! The generator: same seed same job, undamaged families in order, each fault present, column counts as promised. Cells of many
-//! outputs, cascades made by hand and lists as text are in the folder beside.
+//! outputs, cascades made by hand, lists with periods and lists as text are in the folder beside.
 
 mod forced;
 #[path = "generate/outputs.rs"]
 mod outputs;
+#[path = "generate/scans.rs"]
+mod scans;
 #[path = "generate/texts.rs"]
 mod texts;
 
 use forced::forced;
 use second::book::{well_formed, Book, Call, Said};
-use second::generate::{block, calls, damage, job, known_but, lent, made, Family, Fault, Random};
+use second::generate::{
+    block, calls, damage, job, known_but, lent, made, scans as list, Family, Fault, Random, Scans,
+};
 use second::job::{Answer, Job, Lent, Node};
 use second::plain;
 use std::collections::BTreeSet;
@@ -121,6 +125,10 @@ fn the_same_seed_gives_the_same() {
     assert_eq!(made(1, 2), made(1, 2));
     let given = [block(1, 2), block(1, 3)];
     assert_eq!(calls(4, 5, &given), calls(4, 5, &given));
+    for kind in Scans::ALL {
+        assert_eq!(list(kind, 4, 5, &given), list(kind, 4, 5, &given));
+        assert_ne!(list(kind, 4, 5, &given), list(kind, 4, 6, &given));
+    }
     assert_eq!(damage(4, 5, &given[0]), damage(4, 5, &given[0]));
 }
 

@@ -6,7 +6,9 @@ mod limits;
 #[path = "replay/lines.rs"]
 mod lines;
 
-use second::generate::{block, call_line, calls, passed_over, period_spelt, respelt, text, Random};
+use second::generate::{
+    block, call_line, calls, passed_over, period_spelt, respelt, scans, text, Random, Scans,
+};
 use second::replay::printed;
 use second::run::output_of;
 
@@ -132,7 +134,10 @@ fn spellings_of_a_list() {
             .map(|place| block(31, place))
             .filter(|(_, rows)| rows.len() <= 1_000)
             .collect();
-        let (limit, memory, list) = calls(31, index, &blocks);
+        let (limit, memory, list) = match index % 5 {
+            0 => scans(Scans::ALL[index as usize / 5 % 4], 31, index, &blocks),
+            _ => calls(31, index, &blocks),
+        };
         let mut lines = vec![
             format!("memory {}", memory.min(65_536)).into_bytes(),
             format!("bank {limit}").into_bytes(),

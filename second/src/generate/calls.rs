@@ -6,15 +6,15 @@ use super::random::Random;
 use crate::book::Call;
 
 /// A block with its period and phase.
-type Slow = (StoredBlock, Period);
+pub(super) type Slow = (StoredBlock, Period);
 
 /// How many cells a well-formed block's records hold.
-fn cell_count(block: &StoredBlock) -> usize {
+pub(super) fn cell_count(block: &StoredBlock) -> usize {
     block.0.chunks(4).filter(|record| record[1] == 1).count()
 }
 
 /// The cells of these blocks, whose periods are right, that are due in each of the eight scans.
-fn reads(blocks: &[Slow]) -> [usize; 8] {
+pub(super) fn reads(blocks: &[Slow]) -> [usize; 8] {
     let mut reads = [0; 8];
     for (block, (period, phase)) in blocks {
         let due = (*phase as usize..8).step_by(*period as usize);
@@ -58,7 +58,7 @@ fn admission(
     Call::admit_every(records, rows, chances.period(random))
 }
 
-fn latch(random: &mut Random) -> Call {
+pub(super) fn latch(random: &mut Random) -> Call {
     let high = random.pick(&[0, 0xF000, 0xFFFF]);
     Call::Latch(std::array::from_fn(|_| random.word() & (0x0FFF | high)))
 }
