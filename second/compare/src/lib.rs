@@ -11,8 +11,8 @@ pub const NODE_WORDS: usize = 30_720;
 pub const ROW_BYTES: usize = 65_536;
 
 /// The bytes of a bank and of a scan state.
-pub const BANK_BYTES: usize = 651;
-pub const SCAN_BYTES: usize = 85;
+pub const BANK_BYTES: usize = 667;
+pub const SCAN_BYTES: usize = 86;
 
 /// The least of refusals 1 to 7 and no nodes, or 0 and the number of nodes.
 #[repr(C)]
@@ -143,6 +143,18 @@ mod exported {
             records_length: usize,
             bytes: *const u8,
             bytes_length: usize,
+            rows: *mut u8,
+            rows_length: usize,
+        ) -> u8;
+        pub fn cascade_admit_every(
+            bank: *mut [u8; super::BANK_BYTES],
+            scan: *mut [u8; super::SCAN_BYTES],
+            records: *const u8,
+            records_length: usize,
+            bytes: *const u8,
+            bytes_length: usize,
+            period: usize,
+            phase: usize,
             rows: *mut u8,
             rows_length: usize,
         ) -> u8;

@@ -16,7 +16,9 @@ pub fn bank_bytes(bank: &Bank) -> [u8; BANK_BYTES] {
     bytes[..2].copy_from_slice(&bank.limit.to_le_bytes());
     bytes[2] = bank.count;
     bytes[3..11].copy_from_slice(&bank.lengths);
-    bytes[11..].copy_from_slice(bank.records.as_flattened());
+    bytes[11..651].copy_from_slice(bank.records.as_flattened());
+    bytes[651..659].copy_from_slice(&bank.periods);
+    bytes[659..].copy_from_slice(&bank.phases);
     bytes
 }
 
@@ -30,7 +32,8 @@ pub fn scan_bytes(scan: &Scan) -> [u8; SCAN_BYTES] {
     for (to, word) in bytes[5..21].chunks_exact_mut(2).zip(scan.words) {
         to.copy_from_slice(&word.to_le_bytes());
     }
-    bytes[21..].copy_from_slice(scan.outputs.as_flattened());
+    bytes[21..85].copy_from_slice(scan.outputs.as_flattened());
+    bytes[85] = scan.number;
     bytes
 }
 
@@ -50,6 +53,7 @@ impl State {
         unsafe { exported::cascade_bank_new(limit, &mut self.bank, &mut self.scan) }
     }
 
+    /// The older admission.
     pub fn admit(&mut self, records: &[u8], bytes: &[u8]) -> u8 {
         // SAFETY: pointers and lengths are of arrays and slices of their own, of the lengths that the function takes, and it is proved to
         // stay within them.
@@ -61,6 +65,24 @@ impl State {
                 records.len(),
                 bytes.as_ptr(),
                 bytes.len(),
+                self.rows.as_mut_ptr(),
+                self.rows.len(),
+            )
+        }
+    }
+
+    pub fn admit_every(&mut self, records: &[u8], bytes: &[u8], period: usize, phase: usize) -> u8 {
+        // SAFETY: as in `admit`.
+        unsafe {
+            exported::cascade_admit_every(
+                &mut self.bank,
+                &mut self.scan,
+                records.as_ptr(),
+                records.len(),
+                bytes.as_ptr(),
+                bytes.len(),
+                period,
+                phase,
                 self.rows.as_mut_ptr(),
                 self.rows.len(),
             )

@@ -1,13 +1,19 @@
 //! The proved bank, through its exported functions, against the second bank and its book: every answer, every output and every byte
-//! of bank, scan state and row memory after each call. Rows at their limits are in the folder beside.
+//! of bank, scan state and row memory after each call. Periods and rows at their limits are in the folder beside.
 
+#[path = "bank/damaged.rs"]
+mod damaged;
+#[path = "bank/periods.rs"]
+mod periods;
 #[path = "bank/rows.rs"]
 mod rows;
 
 use proved::{State, StepNumbers, ROW_BYTES};
 use second::bank::{self, NOT_SET};
 use second::book::{Book, Call, Outputs, Said};
-use second::generate::{block, calls, compiled, damage, job, made, Family, Random, StoredBlock};
+use second::generate::{
+    block, calls, compiled, damage, job, made, right_period, Family, Random, StoredBlock,
+};
 use second::panel::Panel;
 use second::stored;
 use std::collections::BTreeMap;
@@ -33,14 +39,28 @@ fn lent(panel: &Panel) -> State {
     State::of(&panel.bank, &panel.scan, panel.rows.clone())
 }
 
-/// The proved function's answer.
+/// The proved function's answer; period 1 with phase 0 goes by the older admission.
 fn said(state: &mut State, call: &Call) -> Said {
     let numbered = |refusal: u8| match refusal {
         0 => Said::Accepted,
         number => Said::Refused(number),
     };
     match call {
-        Call::Admit { records, rows } => numbered(state.admit(records, rows)),
+        Call::Admit {
+            records,
+            rows,
+            period: 1,
+            phase: 0,
+        } => numbered(state.admit(records, rows)),
+        Call::Admit {
+            records,
+            rows,
+            period,
+            phase,
+        } => {
+            let [period, phase] = [period, phase].map(|number| *number as usize);
+            numbered(state.admit_every(records, rows, period, phase))
+        }
         Call::Latch(words) => numbered(state.latch(words)),
         Call::Step => match state.step() {
             StepNumbers {
@@ -112,7 +132,7 @@ fn lists_of_calls() {
         lists += 1;
     }
     println!("{lists} lists, {made} calls: {seen:?}");
-    for number in ["11", "12", "13", "14", "went", "idle"] {
+    for number in ["11", "12", "13", "14", "16", "went", "idle"] {
         assert!(seen.contains_key(number), "{number}");
     }
 }
@@ -121,7 +141,7 @@ fn lists_of_calls() {
 fn spoil(random: &mut Random, second: &mut Panel, held: &[StoredBlock]) {
     let place = random.below(8);
     let (bank, scan) = (&mut second.bank, &mut second.scan);
-    match random.below(12) {
+    match random.below(15) {
         0 => bank.limit = random.pick(&[0, 256, 257, 511, 65_535]),
         1 => bank.limit = random.within(1, 255) as u16,
         2 => bank.count = random.pick(&[0, 1, 7, 8, 9, 255]),
@@ -147,6 +167,15 @@ fn spoil(random: &mut Random, second: &mut Panel, held: &[StoredBlock]) {
                 scan.rail = random.below(1 << (bits / 2)) as u16;
             }
         }
+        11 => scan.number = random.pick(&[0, 1, 2, 5, 7, 8, 255]),
+        12 => {
+            let (period, phase) = right_period(random);
+            (bank.periods[place], bank.phases[place]) = (period as u8, phase as u8);
+        }
+        13 => match random.coin() {
+            true => bank.periods[place] = random.pick(&[0, 1, 2, 3, 4, 8, 16, 255]),
+            false => bank.phases[place] = random.pick(&[0, 1, 2, 3, 4, 7, 8, 255]),
+        },
         _ => {
             scan.words[place] = random.word();
             scan.outputs[place][random.below(8)] = random.next() as u8;
@@ -154,7 +183,7 @@ fn spoil(random: &mut Random, second: &mut Panel, held: &[StoredBlock]) {
     }
 }
 
-/// States that no list of calls leaves, each tried on all three calls.
+/// States that no list of calls leaves, each tried on a latch, a step and an admission.
 #[test]
 fn damaged_states() {
     let mut random = Random::new(2, SEED, 0);
@@ -181,8 +210,12 @@ fn damaged_states() {
             let words = std::array::from_fn(|_| random.word());
             // any byte but 0 says that a scan runs
             let running = random.within(1, 255) as u8;
+            let period = match random.percent(70) {
+                true => (1, 0),
+                false => right_period(&mut random),
+            };
             for call in [
-                Call::Admit { records, rows },
+                Call::admit_every(records, rows, period),
                 Call::Latch(words),
                 Call::Step,
             ] {
@@ -225,18 +258,21 @@ fn any_bytes() {
         if index % 2 == 0 {
             state.bank[1] = 0;
             state.bank[2] %= 9;
+            state.scan[85] %= 16;
         }
-        let formed =
-            state.bank[1] == 0 && state.bank[0] != 0 && state.bank[2] == 0 && state.scan[0] == 0;
+        let limit_held = state.bank[1] == 0 && state.bank[0] != 0;
+        let empty = state.bank[2] == 0 && state.scan[0] == 0;
+        let formed = limit_held && empty && state.scan[85] < 8;
         let before = state.clone();
         let (records, rows) = block(SEED, index % 50);
         let answers = [
             state.admit(&records, &rows),
             state.clone().latch(&[index as u16; 8]),
+            state.admit_every(&records, &rows, index as usize, 0),
         ];
         let step = state.step();
         if !formed {
-            assert_eq!(answers, [12, 12]);
+            assert_eq!(answers, [12, 12, 12]);
             assert_eq!((step.kind, step.refusal), (2, 12));
             assert_eq!(state, before);
         }

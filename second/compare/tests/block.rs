@@ -37,11 +37,13 @@ fn replayed(text: &str) -> String {
     output
 }
 
-/// A list that admits these lines and scans some words. Jobs that were refused have no line in it.
+/// A list that admits these lines, some with a period and a phase put after them, and scans some words. Jobs that were refused have no
+/// line in it.
 fn road(random: &mut Random, lines: &[String]) -> String {
     let mut text = "memory 65536\nbank 255\n".to_string();
     for line in lines.iter().filter(|line| line.starts_with("admit ")) {
-        text += line;
+        text += line.trim_end();
+        text += random.pick(&["\n", " 1 0\n", " 2 1\n", " 4 2\n"]);
     }
     for _ in 0..3 {
         let words: [String; 8] = std::array::from_fn(|_| format!("{:04x}", random.word()));
@@ -86,7 +88,7 @@ fn jobs() {
         println!("{}: {seen:?}", family.name());
     }
     println!("{went} cells read");
-    assert!(went > 3_000);
+    assert!(went > 2_000);
 }
 
 /// The jobs of the folder of examples, each in a list of its own.

@@ -42,6 +42,7 @@ impl Seen {
             let kind = match line.split(' ').next().unwrap_or_default() {
                 _ if line.starts_with("refused") => &line[..],
                 "" => "empty",
+                "admit" if line.split(' ').count() == 5 => "admit every",
                 word if word.starts_with('#') => "#",
                 word => word,
             };
@@ -83,9 +84,10 @@ fn lists_of_calls() {
         longest = longest.max(printed(&text, way).len());
     }
     println!("lists, at most {longest} bytes printed: {seen:?}");
-    assert!(seen.texts >= 1_500 && longest > 100_000);
+    assert!(seen.texts >= 1_500 && longest > 80_000);
     for (kind, least) in [
-        ("admit", 2_000),
+        ("admit", 700),
+        ("admit every", 1_000),
         ("refused 12", 1_000),
         ("refused 15", 200),
         ("line", 100),
@@ -119,8 +121,18 @@ fn there_and_back() {
         }
     }
     println!("there and back: {seen:?}");
-    assert!(seen.texts >= 1_400 && seen.lines["admit"] > 2_000);
-    let kinds = ["#", "admit", "bank", "empty", "latch", "memory", "step"];
+    assert!(seen.texts >= 1_400);
+    assert!(seen.lines["admit"] > 700 && seen.lines["admit every"] > 1_000);
+    let kinds = [
+        "#",
+        "admit",
+        "admit every",
+        "bank",
+        "empty",
+        "latch",
+        "memory",
+        "step",
+    ];
     assert!(seen.lines.keys().all(|kind| kinds.contains(&&kind[..])));
 }
 
@@ -189,6 +201,13 @@ fn single_lines() {
             tried.push(format!("admit {bytes} {other}"));
         }
     }
+    for period in ["", "1", "001", "3", "255", "256", "0001", "a", "-", "8 7 6"] {
+        for phase in ["", "0", "000", "9", "255", "256", "0000", "f", "#"] {
+            tried.push(format!("admit - - {period} {phase}"));
+            tried.push(format!("admit 80010000 01 {period}\t{phase} "));
+            tried.push(format!("admit 80010000  0100 {period} {phase}"));
+        }
+    }
     for word in ["", "0", "0000", "fFfF", "00000", "000g", "0000 ", "00:0"] {
         tried.push(format!("latch {zeros}{word}"));
         tried.push(format!("latch {word} {}", zeros.trim_end()));
@@ -233,6 +252,8 @@ fn single_lines() {
         for (before, after) in [
             ("memory 9\n", "\nstep\n"),
             ("memory 9\nadmit 0", " -\n"),
+            ("memory 9\nadmit 80010000 01 ", " 0\n"),
+            ("memory 9\nadmit 80010000 01 1", "2\n"),
             ("memory 9\n# x", "y \n"),
             ("memory 9\nstep", ""),
             ("memory", "9\n"),
@@ -256,7 +277,7 @@ fn broken_off() {
     ] {
         let block = admit_line(&records, &rows);
         let text = format!(
-            "memory {memory}\n# a remark\n\nbank 4\n{block}\nlatch{}\nstep\n\nadmit - -\n",
+            "memory {memory}\n# a remark\n\nbank 4\n{block}\nlatch{}\nstep\n\nadmit - -\n{block} 04 3\n",
             " 00Fd".repeat(8)
         );
         for end in 0..=text.len() {

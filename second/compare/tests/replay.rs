@@ -5,8 +5,8 @@
 mod long;
 
 use second::generate::{
-    bad_line, block, call_line, calls, compiled, job, passed_over, respaced, respelt, text, Family,
-    Random, StoredBlock, BAD_LINES, BAD_MEMORY,
+    bad_line, block, call_line, calls, compiled, job, passed_over, period_spelt, respaced, respelt,
+    scans, text, Family, Random, Scans, StoredBlock, BAD_LINES, BAD_MEMORY,
 };
 use second::replay::printed;
 use second::run::output_of;
@@ -71,10 +71,16 @@ fn texts(lists: u64, most: usize, mut each: impl FnMut(Vec<Vec<u8>>)) {
         if held == lists {
             break;
         }
-        let (limit, memory, list) = calls(SEED, index, &blocks(index));
+        let (limit, memory, list) = match index % 8 {
+            0 => scans(random.pick(&Scans::ALL), SEED, index, &blocks(index)),
+            _ => calls(SEED, index, &blocks(index)),
+        };
         let capital = random.coin();
-        let more = list.iter().map(|call| call_line(call, capital));
-        let more: Vec<String> = [format!("bank {limit}")].into_iter().chain(more).collect();
+        let mut more = vec![format!("bank {limit}")];
+        for call in &list {
+            let line = call_line(call, capital);
+            more.push(period_spelt(&mut random, &line));
+        }
         let bytes: usize = more.iter().map(|line| line.len() + 1).sum();
         if bytes > most / 2 {
             continue;
@@ -129,7 +135,7 @@ fn lists_of_calls() {
         runs += 1;
     });
     println!("lists in {runs} texts: {seen:?}");
-    all_seen(&["11", "12", "13", "14", "went", "idle"], &seen);
+    all_seen(&["11", "12", "13", "14", "16", "went", "idle"], &seen);
     all_seen(&EXPECTED, &seen);
 }
 
@@ -176,6 +182,17 @@ fn tried() -> Vec<Vec<u8>> {
         tried.push(format!("admit {bytes}"));
         for other in ["", "-", "00", "0", "0G", "00 00"] {
             tried.push(format!("admit {bytes} {other}"));
+        }
+    }
+    for period in [
+        "", "0", "1", "2", "08", "008", "3", "16", "255", "256", "999", "0001", "-1", "+1", "a",
+        "1x",
+    ] {
+        for phase in [
+            "", "0", "1", "007", "8", "255", "256", "0000", "-", "f", "0 0", "#",
+        ] {
+            tried.push(format!("admit 80010000 0100 {period} {phase}"));
+            tried.push(format!("admit - - {period}\t {phase}"));
         }
     }
     for word in [
@@ -246,6 +263,9 @@ fn every_byte() {
             ("memory 9\nbank ", "\n"),
             ("memory 9\nbank", "9\n"),
             ("memory 9\nbank 9\nadmit 0", " -\n"),
+            ("memory 9\nbank 9\nadmit 80010000 0100 ", " 0\n"),
+            ("memory 9\nbank 9\nadmit 80010000 0100 8", "7\n"),
+            ("memory 9\nbank 9\nadmit 80010000 0100 2 1", ""),
             ("memory 9\nbank 9\nstep", ""),
         ] {
             let text = [before.as_bytes(), &[byte], after.as_bytes()].concat();

@@ -2,7 +2,7 @@
 
 use proved::{compile, reduce, sheet_refusal, sheet_table, State};
 use proved::{NODE_WORDS, ROW_BYTES, TABLE_BYTES, WIDTHS};
-use second::bank::{self, Bank, Scan};
+use second::bank::{self, Bank, Handed, Scan};
 use second::fast::{self, read, Compiler};
 use second::generate::{block, compiled as compiled_block, job, Family, StoredBlock};
 use second::job::{Job, Lent, Node};
@@ -149,20 +149,22 @@ fn each(mut run: impl FnMut() -> usize) -> f64 {
         .fold(f64::MAX, f64::min)
 }
 
-/// The blocks in a bank of the second one, with the rows they take; the proved one's state is made of it.
-fn admitted(blocks: &[StoredBlock]) -> (Bank, Scan, Vec<u8>) {
+/// The blocks in a bank of the second one, with the rows they take, all with this period and one phase after another; the proved one's
+/// state is made of it.
+fn admitted(blocks: &[StoredBlock], period: u64) -> (Bank, Scan, Vec<u8>) {
     let (mut bank, mut scan) = bank::new_bank(255).expect("S in range");
     let mut rows = vec![0; ROW_BYTES];
-    for (records, bytes) in blocks {
-        bank::admit(&mut bank, &mut scan, &mut rows, records, bytes).expect("room");
+    for ((records, bytes), place) in blocks.iter().zip(0..) {
+        let handed = Handed::new(records, bytes, (period, place % period));
+        bank::admit_every(&mut bank, &mut scan, &mut rows, handed).expect("room");
     }
     (bank, scan, rows)
 }
 
 /// Whole scans, each latched anew, and steps with no scan: these make the test for 12 and read nothing.
-fn steps(name: &str, blocks: &[StoredBlock]) {
+fn steps(name: &str, blocks: &[StoredBlock], period: u64) {
     const SCANS: usize = 2_000;
-    let (bank, mut scan, rows) = admitted(blocks);
+    let (bank, mut scan, rows) = admitted(blocks, period);
     let mut state = State::of(&bank, &scan, rows.clone());
     let idle = each(|| {
         for _ in 0..SCANS {
@@ -203,7 +205,7 @@ fn steps(name: &str, blocks: &[StoredBlock]) {
         made + SCANS
     });
     println!(
-        "| {name} | {} | {cells} | {proved:.0} | {rival:.0} | {:.2} | {idle:.0} | {idle_rival:.0} | {:.2} |",
+        "| {name} | {} | {period} | {cells} | {proved:.0} | {rival:.0} | {:.2} | {idle:.0} | {idle_rival:.0} | {:.2} |",
         blocks.len(),
         proved / rival,
         idle / idle_rival
@@ -211,7 +213,7 @@ fn steps(name: &str, blocks: &[StoredBlock]) {
 }
 
 /// Blocks that the compiler writes for table 1, and hand-made ones of many records.
-fn banks() -> Vec<(&'static str, Vec<StoredBlock>)> {
+fn banks() -> Vec<(&'static str, Vec<StoredBlock>, u64)> {
     let table1 = compiled_block(&second::cases::a()).expect("case A is accepted");
     let long: Vec<StoredBlock> = (0..)
         .map(|i| block(1, i))
@@ -219,10 +221,12 @@ fn banks() -> Vec<(&'static str, Vec<StoredBlock>)> {
         .take(8)
         .collect();
     vec![
-        ("table 1", vec![table1.clone()]),
-        ("table 1", vec![table1; 8]),
-        ("20 records", long[..1].to_vec()),
-        ("20 records", long),
+        ("table 1", vec![table1.clone()], 1),
+        ("table 1", vec![table1.clone(); 8], 1),
+        ("table 1", vec![table1; 8], 8),
+        ("20 records", long[..1].to_vec(), 1),
+        ("20 records", long.clone(), 1),
+        ("20 records", long, 8),
     ]
 }
 
@@ -277,10 +281,10 @@ fn main() -> ExitCode {
     println!(
         "Nanoseconds a step, over whole scans with the step to Idle; then of a step with no scan."
     );
-    println!("| blocks of | blocks | cells | proved | fast | ratio | proved, no scan | fast, no scan | ratio |");
-    println!("|---|---|---|---|---|---|---|---|---|");
-    for (name, blocks) in banks() {
-        steps(name, &blocks);
+    println!("| blocks of | blocks | period | cells | proved | fast | ratio | proved, no scan | fast, no scan | ratio |");
+    println!("|---|---|---|---|---|---|---|---|---|---|");
+    for (name, blocks, period) in banks() {
+        steps(name, &blocks, period);
     }
     ExitCode::SUCCESS
 }

@@ -15,7 +15,7 @@ fn admitted(block: &StoredBlock, bytes: usize, random: &mut Random) -> (Said, St
     let mut second = Panel::new(255, (0..bytes).map(|_| random.byte()).collect());
     let mut held = lent(&second);
     let (records, rows) = block.clone();
-    let call = Call::Admit { records, rows };
+    let call = Call::admit(records, rows);
     let answer = said(&mut held, &call);
     assert_eq!(answer, second.call(&call), "{bytes} {block:?}");
     assert!(held == lent(&second), "{bytes} {block:?}");
@@ -174,7 +174,7 @@ fn as_many_rows_as_can_be() {
             scanned(&state, &second, &mut random);
             let (mut held, mut second) = (state, second);
             let (records, rows) = (vec![128, 1, 0, 0], vec![1, 0]);
-            let call = Call::Admit { records, rows };
+            let call = Call::admit(records, rows);
             assert_eq!(said(&mut held, &call), Said::Refused(11));
             assert_eq!(second.call(&call), Said::Refused(11));
             assert!(held == lent(&second));

@@ -5,7 +5,8 @@ use second::book::Call;
 use second::call_lines::TEXT_BYTES;
 use second::generate::{
     at_most, bad_line, block, call_line, calls, cascade, compiled, damage, damage_one_byte, job,
-    low_bytes, made, passed_over, Family, Random, Rows, Shape, StoredBlock, BAD_MEMORY,
+    low_bytes, made, passed_over, period_spelt, Family, Random, Rows, Shape, StoredBlock,
+    BAD_MEMORY,
 };
 use second::moves::Way;
 
@@ -77,7 +78,13 @@ fn line_of(
     call: Call,
     blocks: &[StoredBlock],
 ) -> Option<String> {
-    let Call::Admit { records, rows } = call else {
+    let Call::Admit {
+        records,
+        rows,
+        period,
+        phase,
+    } = call
+    else {
         return Some(call_line(&call, random.coin()));
     };
     let block = (records, rows);
@@ -86,7 +93,8 @@ fn line_of(
     if kind == Kind::Movable && refused(way, &(records.clone(), rows.clone())) {
         return None;
     }
-    Some(call_line(&Call::Admit { records, rows }, false))
+    let call = Call::admit_every(records, rows, (period, phase));
+    Some(period_spelt(random, &call_line(&call, false)))
 }
 
 /// The lines of a list whose rows go this way; the first one's number is even going back. As the program spells them but for bad ones.

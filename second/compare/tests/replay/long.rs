@@ -76,7 +76,7 @@ fn long_lists() {
     }
     println!("long lists, at most {longest} bytes: {seen:?}");
     assert!(longest > 1_000_000);
-    all_seen(&["11", "12", "13", "14", "went", "idle"], &seen);
+    all_seen(&["11", "12", "13", "14", "16", "went", "idle"], &seen);
 }
 
 #[test]
@@ -88,6 +88,12 @@ fn many_calls() {
     let scan = format!("{latch}step\nstep\n step\r\n\n# x\n");
     // Four calls a scan, after the bank and the block.
     let (head, scans) = (format!("bank 255\nadmit {block}\n"), (CALLS - 2) / 4);
+    // A block that is due in every other scan, and as many calls.
+    let text = format!(
+        "memory 64\nbank 255\nadmit {block} 2 1\n{}",
+        scan.repeat(scans)
+    );
+    compare(text.as_bytes(), &mut seen);
     for more in [0, 1, 2, 3, 4, 200] {
         for last in ["", "x", "\n #", "memory 9\n", "step 1\nstep\n"] {
             let text = format!(
@@ -123,8 +129,11 @@ fn long_admissions() {
     let words = [0, 1, 65_534, 65_535, 65_536, 65_537].map(|count| "a0".repeat(count));
     for records in &words {
         for rows in &words {
-            let text = format!("memory 65536\nbank 255\nadmit {records}  {rows}\r\nstep\n");
-            compare(text.as_bytes(), &mut seen);
+            for last in ["", " 8\t7", " 256 0"] {
+                let text =
+                    format!("memory 65536\nbank 255\nadmit {records}  {rows}{last}\r\nstep\n");
+                compare(text.as_bytes(), &mut seen);
+            }
         }
         for end in ["0", "-", "g"] {
             let text = format!("memory 65536\nbank 255\nadmit - {records}{end}\nstep\n");
