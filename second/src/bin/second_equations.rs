@@ -250,7 +250,7 @@ abbrev node : ℕ → ℕ → ℕ → Node
 node h l r = record { height = h; low = l; high = r }
 ";
 const BANK: &str = "use Rattle.bank_spec.specs.State.{fresh, formed}
-use Rattle.bank_spec.specs.Calls.{accepted, refused, idle, went}
+use Rattle.bank_spec.specs.Calls.{accepted, refused, idle, went, handed}
 use Rattle.bank_spec.specs.Book.{newBook}
 use Rattle.bank_spec.specs.CallLists.{admission, latching, stepping, Entry, trace, bookTrace}
 ";
