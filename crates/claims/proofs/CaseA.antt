@@ -18,7 +18,7 @@ use Rattle.bank_spec.specs.State.{fresh}
 use Rattle.bank_spec.specs.Calls.{everyScan}
 use Rattle.bank_spec.specs.Book.{Block}
 use Rattle.bank_spec.specs.CallLists.{Call, admission, latching, stepping, stateAfter, trace}
-use Rattle.bank_spec.specs.Demand3.{CompiledBy, SetAllowed, outputIn, OnlyUnread, blocks, reads, ScanClaim}
+use Rattle.bank_spec.specs.Demand3.{CompiledBy, FewestBits, mergedColumns, SetAllowed, outputIn, OnlyUnread, blocks, reads, ScanClaim}
 use Rattle.bank_spec.proofs.Promises.{demand3}
 use Rattle.claims.proofs.WrittenBlocks.{outcome-compiled}
 
@@ -37,6 +37,11 @@ admitA = admission (everyScan recordsA rowBytesA) ∷ []
 
 abbrev memory : List ℕ
 memory = replicate 32 9
+
+-- the cut below x3 has 2 rails, the fewest bits that tell apart the four merged columns there
+pub A-rails : FewestBits 2 (mergedColumns (jobT 3 2) T 3)
+unfolding sheetOpened cuttingOpened bankOpened
+A-rails = demand3 4 refl memory admitA .rails 0 (jobT 3 2) T (omega arith) (A-compiled _ _ _ _ _) 2 (omega arith) refl
 
 -- after the first cell is read the scan still runs, and all of the claim holds
 A-scan : ScanClaim 4 memory admitA (6 ∷ []) (stepping ∷ [])
