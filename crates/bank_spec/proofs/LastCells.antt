@@ -2,13 +2,13 @@
 -- word just as far, and so exactly the outputs of these cells are set.
 -- Assumes nothing.
 use mathlib.Core.Path.{_≡_, refl, sym, _∙_, ap, ap₂, subst}
-use mathlib.Core.Bool.{Bool, true, false, cond, _||_}
+use mathlib.Core.Bool.{Bool, true, false, cond, _||_, or-true}
 use mathlib.Core.List.{List, [], _∷_, _++_, append-nil}
 use Prim.Native.Nat.{ℕ, zero, suc, _+_, _<_, _≤_}
 use native.Mathlib.Nat.{not-suc-le-zero}
 use native.Mathlib.Omega.{arith}
 use lib.Dec.{eqb, ltb}
-use lib.ListN.{length, getD, set, replicate, length-set}
+use lib.ListN.{length, getD, set, replicate, length-set, length-append}
 use lib.Seq.{getD-set-same, getD-set-other}
 use borrow.Author.Tests.{eq-eqb, ne-eqb, lt-ltb}
 use Rattle.laws.specs.Bits.{bit}
@@ -215,7 +215,7 @@ module _ (k : Book) (b : ℕ) (cs : List ℕ) where
       sym (cond-yes (eqb (p .block) b) _ _ (eq-eqb (p .block) b is)) ∙ ap (cellsOf b) (sym e) ∙ t .toRead in
       let f = front (t .left) (λ i. length cs + i) (p .cell) (cellsOf b ps) here in
       let cell : p .cell ≡ length cs = f .2 ∙ omega arith in
-      let long : length (cs ++ (p .cell ∷ [])) ≡ suc (length cs) = omega (arith, length-snoc cs (p .cell)) in
+      let long : length (cs ++ (p .cell ∷ [])) ≡ suc (length cs) = omega (arith, length-append cs (p .cell ∷ [])) in
       let block : blockAt (set (k .blocks) (p .block) (readCell (blockAt (k .blocks) (p .block)) (p .cell))) b ≡ readCell B (length cs) =
       ap₂ (λ (i c : ℕ). blockAt (set (k .blocks) i (readCell (blockAt (k .blocks) i) c)) b) is cell
       ∙ getD-set-same (k .blocks) b (readCell B (length cs)) noBlock l in
@@ -240,10 +240,6 @@ module _ (k : Book) (b : ℕ) (cs : List ℕ) where
             (subst (λ (n : ℕ). readCell B (length cs) .outputs ≡ run (B .records) (B .rows) (B .word) n .outputs) (sym long)
             (ap (λ (x : Running). x .outputs) ran));
       }
-    where
-      length-snoc : (xs : List ℕ) (x : ℕ) → length (xs ++ (x ∷ [])) ≡ suc (length xs)
-      length-snoc [] x = refl
-      length-snoc (y ∷ ys) x = ap suc (length-snoc ys x)
 
   -- a step that reads a cell of another block
   read-other : (p : Place) (ps : List Place) → k .toRead ≡ p ∷ ps → (p .block ≡ b → ⊥) → Tells k b cs → Tells (readFirst k (p ∷ ps) .state) b cs
@@ -335,10 +331,6 @@ set-one outs (p ∷ os) x o l =
     (λ n.
     let no : getD (set outs p v) o 2 ≡ getD outs o 2 = getD-set-other outs p o v 2 (λ q. n (sym q)) in
     rw (no, ne-eqb o p (λ q. n (sym q))) refl)
-  where
-    or-true : (b : Bool) → (b || true) ≡ true
-    or-true true = refl
-    or-true false = refl
 
 set-append : (R : List ℕ) (cs : List ℕ) (c o : ℕ) → setBy R (cs ++ (c ∷ [])) o ≡ (member o (cellAt R c .outs) || setBy R cs o)
 unfolding setBy

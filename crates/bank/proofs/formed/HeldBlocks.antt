@@ -1,7 +1,7 @@
 -- Laws of the blocks that a bank holds: their records, cells and rows, and the tests of a bank and a scan state put together from their parts.
 -- Assumes nothing.
 use mathlib.Core.Path.{_≡_, refl, sym, _∙_, ap, ap₂}
-use mathlib.Core.Bool.{Bool, true, false, _&&_}
+use mathlib.Core.Bool.{Bool, true, false, _&&_, and-true, and-false}
 use Prim.Native.Nat.{ℕ, _+_, _-_, _*_, _^_, _≤_, _<_}
 use native.Mathlib.Omega.{arith}
 use lib.Dec.{leb, ltb}
@@ -22,14 +22,6 @@ use Rattle.bank_spec.specs.Due.{timed}
 use Rattle.bank_spec.specs.declared.Bank.{Bank}
 use Rattle.bank_spec.specs.declared.Scan.{Scan}
 use Rattle.bank_spec.specs.State.{recordsOf, periodOf, phaseOf, dueAt, blockFormed, rowsBefore, cellsHeld, rowsHeld, bankFormed, scanFormed, formed}
-
-and-no : (t : Bool) → (t && false) ≡ false
-and-no true = refl
-and-no false = refl
-
-and-yes : (t : Bool) → (t && true) ≡ t
-and-yes true = refl
-and-yes false = refl
 
 module _ (k : Bank) (b : ℕ) where
   -- the part of the records that is lent
@@ -53,13 +45,13 @@ module _ (k : Bank) (b : ℕ) where
   unfolding blockFormed
   not-timed u v e =
       let test = within 1 20 (getD (k .lengths) b 0) && recordsFormed (recordsOf k b) in
-      sym (ap (λ (t : Bool). test && t) (sym (ap₂ timed u v) ∙ e) ∙ and-no test)
+      sym (ap (λ (t : Bool). test && t) (sym (ap₂ timed u v) ∙ e) ∙ and-false test)
 
   pub in-number : {n p f : ℕ} → n ≡ getD (k .lengths) b 0 → 1 ≤ n → n ≤ 20 → p ≡ periodOf k b → f ≡ phaseOf k b → timed p f ≡ true
       → recordsFormed (recordsOf k b) ≡ blockFormed k b
   unfolding blockFormed
   in-number e l m u v t =
-      sym (and-yes (recordsFormed (recordsOf k b)))
+      sym (and-true (recordsFormed (recordsOf k b)))
       ∙ rw (within-yes 1 20 (getD (k .lengths) b 0) (omega (arith, e, l)) (omega (arith, e, m)), sym (ap₂ timed u v) ∙ t) refl
 
   -- what a well formed block has
