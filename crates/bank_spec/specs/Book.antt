@@ -1,7 +1,7 @@
--- The book (document 01, "The book of demand 3"; document 02, §8 and §9): it is fed S, the length m of the row memory and the calls, and nothing of bank,
+-- The book (document 01, "The book of demand 3"; document 02, §8): it is fed S, the length m of the row memory and the calls, and nothing of bank,
 -- scan state or rows held.
 -- Assumes nothing.
-use Rattle.std.specs.Prelude.{ℕ, ◌+◌, Bool, cond, not, ◌&&◌, ◌||◌, List, [], ◌∷◌, ◌++◌, map, leb, ltb, length, get_or, set}
+use Rattle.std.specs.Prelude.{ℕ, ◌+◌, Bool, cond, not, ◌||◌, List, [], ◌∷◌, ◌++◌, map, eqb, leb, ltb, length, get_or, set}
 use Rattle.laws.specs.Tests.{any, sum}
 use Rattle.laws.specs.Lists.{tab, joined}
 use Rattle.sheet_spec.specs.Limits.{most_blocks, most_rows}
@@ -9,7 +9,7 @@ use Rattle.stored_spec.specs.StoredForm.{well_formed, cell_at, row_count}
 use Rattle.stored_spec.specs.RowBytes.{two_bytes, row_value, room}
 use Rattle.stored_spec.specs.Run.{row_place, outputs_after, rail_after, unset}
 use Rattle.bank_spec.specs.Due.{scan_numbers, number_after, timed, due, due_cells}
-use Rattle.bank_spec.specs.Calls.{accepted, idle, went, After, Handed, Pair, first_of, second_of, decided}
+use Rattle.bank_spec.specs.Calls.{accepted, idle, went, After, numbered, Handed}
 
 -- a block: its records and rows, period and phase as handed in, its word, its rail word, and its outputs, 0 or 1 where set, else 2
 pub record Block : Type 0 where
@@ -80,23 +80,9 @@ unfoldable pub entered : Book → Handed → Book
 entered k h = record { blocks = map (wiped 0) k.blocks ++ (new_block h ∷ []); to_read = []; next = 0 }
 
 unfoldable pub book_admit : ℕ → ℕ → Book → Handed → After Book
-book_admit S m k h = decided (book_refusal S m k.blocks h) (entered k h) k
-
--- a pair's refused cases: places, cells and rows of both are added up
-unfoldable pub book_pair_refusal : ℕ → ℕ → List Block → Pair → ℕ
-book_pair_refusal S m bs q =
-    let R = q.first_records in
-    let R' = q.second_records in
-    let rows = rows_in bs + row_count R + row_count R' in
-    cond (not (well_formed R q.first_rows && well_formed R' q.second_rows)) 12
-    (cond (not (timed q.period q.phase)) 16
-    (cond (ltb most_blocks (length bs + 2)) 13
-    (cond (any scan_numbers (λ n. ltb S (cells_in n bs + due_cells q.period q.phase n R + due_cells q.period q.phase n R'))) 14
-    (cond (ltb m (room two_bytes rows) || ltb most_rows rows) 11 0))))
-
--- it takes the pair as one admission: both blocks, the first one first, or the one number
-unfoldable pub book_pair : ℕ → ℕ → Book → Pair → After Book
-book_pair S m k q = decided (book_pair_refusal S m k.blocks q) (entered (entered k (first_of q)) (second_of q)) k
+book_admit S m k h =
+    let n = book_refusal S m k.blocks h in
+    record { answer = numbered n; state = cond (eqb n 0) (entered k h) k }
 
 -- the cells of the blocks due in scan n, in order of admission, each block's cells top first
 unfoldable pub places : ℕ → List Block → List Place

@@ -1,28 +1,25 @@
 -- Lists of calls, on the bank and in the book, and what is compared after each (document 01, "The book of demand 3").
 -- Assumes nothing.
-use Rattle.std.specs.Prelude.{ℕ, suc, ◌+◌, Bool, true, false, cond, List, [], ◌∷◌, ◌++◌, map}
+use Rattle.std.specs.Prelude.{ℕ, suc, Bool, true, false, cond, List, [], ◌∷◌, ◌++◌, map}
 use Rattle.laws.specs.Lists.{tab}
 use Rattle.bank_spec.specs.State.{State}
-use Rattle.bank_spec.specs.Calls.{Answer, accepted, refused, idle, went, After, Handed, Pair, admit, admit_pair, latch, step, outputs_of}
-use Rattle.bank_spec.specs.Book.{Place, Book, book_admit, book_pair, book_latch, book_step}
+use Rattle.bank_spec.specs.Calls.{Answer, accepted, refused, idle, went, After, Handed, admit, latch, step, outputs_of}
+use Rattle.bank_spec.specs.Book.{Place, Book, book_admit, book_latch, book_step}
 
--- an admission of a block that is handed in or of a pair, a latch with its words, or a step
+-- an admission of a block that is handed in, a latch with its words, or a step
 pub data Call : Type 0 where
   admission : Handed → Call
-  pairing : Pair → Call
   latching : List ℕ → Call
   stepping : Call
 
 -- each call gets bank, scan state and row memory as the last one left them
 unfoldable pub call : State → Call → After State
 call s (admission h) = admit s h
-call s (pairing q) = admit_pair s q
 call s (latching ws) = latch s ws
 call s stepping = step s
 
 unfoldable pub book_call : ℕ → ℕ → Book → Call → After Book
 book_call S m k (admission h) = book_admit S m k h
-book_call S m k (pairing q) = book_pair S m k q
 book_call S m k (latching ws) = book_latch k ws
 book_call S m k stepping = book_step k
 
@@ -71,20 +68,15 @@ reads_of (e ∷ es) = read_of e.answer ++ reads_of es
 unfoldable pub steps_of : List Call → ℕ
 steps_of [] = 0
 steps_of (admission h ∷ cs) = steps_of cs
-steps_of (pairing q ∷ cs) = steps_of cs
 steps_of (latching ws ∷ cs) = steps_of cs
 steps_of (stepping ∷ cs) = suc (steps_of cs)
 
-unfoldable pub is_accepted : Answer → Bool
-is_accepted accepted = true
-is_accepted (refused n) = false
-is_accepted idle = false
-is_accepted (went b c) = false
-
 -- a scan runs from a latch to the next latch or accepted admission: none of the calls, made from the book k on, ends it
 unfoldable pub ends : Call → Answer → Bool
-ends (admission h) a = is_accepted a
-ends (pairing q) a = is_accepted a
+ends (admission h) accepted = true
+ends (admission h) (refused n) = false
+ends (admission h) idle = false
+ends (admission h) (went b c) = false
 ends (latching ws) a = true
 ends stepping a = false
 

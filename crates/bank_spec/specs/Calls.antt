@@ -1,5 +1,4 @@
--- Admission, latch and step: the answer and the state after, for every state (document 01, "The bank" and "Who can cause a refusal"; document 02, §8
--- and §9).
+-- Admission, latch and step: the answer and the state after, for every state (document 01, "The bank" and "Who can cause a refusal"; document 02, §8).
 -- Assumes nothing.
 use Rattle.std.specs.Prelude.{ℕ, ◌+◌, ◌*◌, ◌/◌, ◌%◌, Bool, true, false, cond, not, ◌&&◌, ◌||◌, List, eqb, leb, ltb, length, get_or, set, take, drop}
 use Rattle.laws.specs.Tests.{any}
@@ -48,29 +47,6 @@ handed R bytes period phase = record { records = R; rows = bytes; period = perio
 abbrev pub every_scan : List ℕ → List ℕ → Handed
 every_scan R bytes = handed R bytes 1 0
 
--- a pair handed in: the records and rows of two blocks, with one period and phase
-pub record Pair : Type 0 where
-  pub first_records : List ℕ
-  pub first_rows : List ℕ
-  pub second_records : List ℕ
-  pub second_rows : List ℕ
-  pub period : ℕ
-  pub phase : ℕ
-
-abbrev pub pair_of : List ℕ → List ℕ → List ℕ → List ℕ → ℕ → ℕ → Pair
-pair_of R bytes R' bytes' period phase =
-    record { first_records = R; first_rows = bytes; second_records = R'; second_rows = bytes'; period = period; phase = phase }
-
-abbrev pub first_of : Pair → Handed
-first_of q = handed q.first_records q.first_rows q.period q.phase
-
-abbrev pub second_of : Pair → Handed
-second_of q = handed q.second_records q.second_rows q.period q.phase
-
--- what an admission with the refusal n answers, and what is held after: the new where n is 0, else the old
-unfoldable pub decided : {A : Type 0} → ℕ → A → A → After A
-decided n new old = record { answer = numbered n; state = cond (eqb n 0) new old }
-
 -- admission's refusal, 0 where there is none: 12, 16, 13, 14, 11
 unfoldable pub admit_refusal : State → Handed → ℕ
 admit_refusal s h =
@@ -100,26 +76,9 @@ admitted s h =
     record { bank = with_block s.bank h; scan = at_rest; rows = written s.rows (room two_bytes (rows_held s.bank)) h.rows }
 
 unfoldable pub admit : State → Handed → After State
-admit s h = decided (admit_refusal s h) (admitted s h) s
-
--- the refusal of a pair: each test is made for the two together before the next, places, cells and rows being added up
-unfoldable pub pair_refusal : State → Pair → ℕ
-pair_refusal s q =
-    let R = q.first_records in
-    let R' = q.second_records in
-    let rows = rows_held s.bank + row_count R + row_count R' in
-    cond (not (formed s.bank s.scan && well_formed R q.first_rows && well_formed R' q.second_rows)) 12
-    (cond (not (timed q.period q.phase)) 16
-    (cond (ltb most_blocks (s.bank.count + 2)) 13
-    (cond
-    (any scan_numbers
-    (λ n. ltb s.bank.limit (cells_held s.bank n + due_cells q.period q.phase n R + due_cells q.period q.phase n R')))
-    14
-    (cond (ltb (length s.rows) (room two_bytes rows) || ltb most_rows rows) 11 0))))
-
--- both blocks enter the bank, the first one first, or neither does
-unfoldable pub admit_pair : State → Pair → After State
-admit_pair s q = decided (pair_refusal s q) (admitted (admitted s (first_of q)) (second_of q)) s
+admit s h =
+    let n = admit_refusal s h in
+    record { answer = numbered n; state = cond (eqb n 0) (admitted s h) s }
 
 -- whether reads are left, the block, cell and rail word of the next, the scan's number, the words and the outputs
 abbrev pub scan_at : Bool → ℕ → ℕ → ℕ → ℕ → List ℕ → List ℕ → Scan

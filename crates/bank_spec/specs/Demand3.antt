@@ -1,6 +1,6 @@
--- Demand 3: one claim about a whole list of calls, wherever it breaks off (document 01, "The book of demand 3"; document 02, §8 and §9).
+-- Demand 3: one claim about a whole list of calls, wherever it breaks off (document 01, "The book of demand 3"; document 02, §8).
 -- Assumes nothing.
-use Rattle.std.specs.Prelude.{◌≡◌, ◌⊎◌, true, false, List, [], ◌∷◌, ◌++◌, ℕ, suc, ◌+◌, ◌-◌, ◌*◌, ◌/◌, ◌^◌, ◌<◌, ◌≤◌, min, ltb, length, get_or, take, replicate}
+use Rattle.std.specs.Prelude.{◌≡◌, ◌⊎◌, true, false, List, [], ◌∷◌, ◌++◌, ℕ, suc, ◌-◌, ◌*◌, ◌/◌, ◌^◌, ◌<◌, ◌≤◌, min, ltb, length, get_or, take, replicate}
 use Rattle.sheet_spec.specs.Job.{Job, t}
 use Rattle.sheet_spec.specs.Values.{value, allows}
 use Rattle.sheet_spec.specs.Table.{table}
@@ -12,7 +12,6 @@ use Rattle.stored_spec.specs.Run.{AgreeOn}
 use Rattle.stored_spec.specs.RowBytes.{two_bytes, room}
 use Rattle.cutting_spec.specs.Compile.{compile, Totals}
 use Rattle.cutting_spec.specs.Compile as compiler
-use Rattle.splitting_spec.specs.Split.{Half, first_half, second_half, Lent, both, split, half_job, half_sheet, from_of, lent_to}
 use Rattle.bank_spec.specs.State.{State, fresh}
 use Rattle.bank_spec.specs.Calls.{idle, outputs_of, step}
 use Rattle.bank_spec.specs.Book.{Block, Place, Book, new_book, block_at, is_due, cells_in}
@@ -28,33 +27,6 @@ pub record CompiledBy (j : Job) (s : List ℕ) (B : Block) : Type 0 where
   pub accepted : (compile nodes records rows j s).answer ≡ compiler.accepted totals
   pub records_written : B.records ≡ take (4 * t j) (compile nodes records rows j s).records
   pub rows_written : B.rows ≡ take (room two_bytes totals.rows) (compile nodes records rows j s).rows
-
--- of the totals of both halves those of one
-abbrev pub totals_of : Half → Totals → Totals → Totals
-totals_of first_half a b = a
-totals_of second_half a b = b
-
--- a half written by splitting is a compiled block, by that half's job j and sheet s: its records and rows are byte for byte what an accepted
--- splitting of a job and its sheet writes for that half, whose output o is output d + o of the block
-pub record HalfBy (j : Job) (s : List ℕ) (d : ℕ) (B : Block) : Type 0 where
-  pub half : Half
-  pub whole : Job
-  pub sheet : List ℕ
-  pub first : Lent Node
-  pub second : Lent Node
-  pub first_totals : Totals
-  pub second_totals : Totals
-  pub accepted : (split first second whole sheet).answer ≡ both first_totals second_totals
-  pub is_job : j ≡ half_job half whole
-  pub is_sheet : s ≡ half_sheet half whole sheet
-  pub from : d ≡ from_of half whole
-  pub records_written : B.records ≡ take (4 * t j) (lent_to half (split first second whole sheet)).records
-  pub rows_written : B.rows ≡ take (room two_bytes (totals_of half first_totals second_totals).rows) (lent_to half (split first second whole sheet)).rows
-
--- a block compiled by the job j and the sheet s, whose output o is output d + o of the block: unsplit, and then d is 0, or as a half
-pub data Compiled (j : Job) (s : List ℕ) (d : ℕ) (B : Block) : Type 0 where
-  unsplit : d ≡ 0 → CompiledBy j s B → Compiled j s d B
-  as_half : HalfBy j s d B → Compiled j s d B
 
 -- output o is set, to the value v, which the sheet allows for the word w
 pub record SetAllowed (s : List ℕ) (w o v : ℕ) : Type 0 where
@@ -109,8 +81,8 @@ OnlyUnread bs ws vs (p ∷ ps) =
 -- vs, and every block that isn't due has the outputs that it had
 pub record ReadsLeft (c : ℕ) (bs : List Block) (vs : List ℕ) (n : ℕ) (s : State) : Type 0 where
   pub to_idle : (step (state_after s (replicate n stepping))).answer ≡ idle
-  pub allowed : (b : ℕ) → b < length bs → is_due c (block_at bs b) ≡ true → (j : Job) (sheet : List ℕ) (d : ℕ) → Compiled j sheet d (block_at bs b)
-      → (o : ℕ) → o < j.m → SetAllowed sheet (get_or vs b 0) o (output_in (state_after s (replicate n stepping)) b (d + o))
+  pub allowed : (b : ℕ) → b < length bs → is_due c (block_at bs b) ≡ true → (j : Job) (sheet : List ℕ) → CompiledBy j sheet (block_at bs b)
+      → (o : ℕ) → o < j.m → SetAllowed sheet (get_or vs b 0) o (output_in (state_after s (replicate n stepping)) b o)
   pub kept : (b : ℕ) → b < length bs → is_due c (block_at bs b) ≡ false
       → outputs_of (state_after s (replicate n stepping)).scan b ≡ outputs_of s.scan b
 
@@ -155,14 +127,14 @@ pub record Demand3 (S : ℕ) (mem : List ℕ) (calls : List Call) : Type 0 where
   -- every answer and the outputs set so far are exactly those of the book
   pub as_book : trace (fresh S mem) calls ≡ book_trace S (length mem) new_book calls
   -- each output set in a compiled block is allowed by its sheet for the latched inputs: the word of its last due scan
-  pub allowed : (b : ℕ) (j : Job) (sheet : List ℕ) (d : ℕ) → b < length (book_after S (length mem) new_book calls).blocks
-      → Compiled j sheet d (block_at (book_after S (length mem) new_book calls).blocks b)
+  pub allowed : (b : ℕ) (j : Job) (sheet : List ℕ) → b < length (book_after S (length mem) new_book calls).blocks
+      → CompiledBy j sheet (block_at (book_after S (length mem) new_book calls).blocks b)
       → (o : ℕ) → o < j.m
-      → (output_in (state_after (fresh S mem) calls) b (d + o) ≡ 2)
-      ⊎ SetAllowed sheet (block_at (book_after S (length mem) new_book calls).blocks b).word o (output_in (state_after (fresh S mem) calls) b (d + o))
+      → (output_in (state_after (fresh S mem) calls) b o ≡ 2)
+      ⊎ SetAllowed sheet (block_at (book_after S (length mem) new_book calls).blocks b).word o (output_in (state_after (fresh S mem) calls) b o)
   -- its rails number exactly the fewest bits that tell apart the merged columns at each cut
-  pub rails : (b : ℕ) (j : Job) (sheet : List ℕ) (d : ℕ) → b < length (book_after S (length mem) new_book calls).blocks
-      → Compiled j sheet d (block_at (book_after S (length mem) new_book calls).blocks b)
+  pub rails : (b : ℕ) (j : Job) (sheet : List ℕ) → b < length (book_after S (length mem) new_book calls).blocks
+      → CompiledBy j sheet (block_at (book_after S (length mem) new_book calls).blocks b)
       → (i : ℕ) → i < t j → cut_byte (block_at (book_after S (length mem) new_book calls).blocks b).records i ≡ 1
       → FewestBits (rail_byte (block_at (book_after S (length mem) new_book calls).blocks b).records i) (merged_columns j sheet (t j - suc i))
   -- a step answered Idle changes nothing

@@ -5,9 +5,9 @@ use Rattle.laws.specs.Tests.{every}
 use Rattle.laws.specs.Bits.{flag}
 use Rattle.stored_spec.specs.StoredForm.{member, cell_at}
 use Rattle.bank_spec.specs.State.{State}
-use Rattle.bank_spec.specs.Calls.{Answer, latch}
+use Rattle.bank_spec.specs.Calls.{Answer, accepted, refused, idle, went, latch}
 use Rattle.bank_spec.specs.Book.{Place, Book, block_at, is_due, book_latch}
-use Rattle.bank_spec.specs.CallLists.{Call, admission, pairing, latching, stepping, book_call, state_after, book_after, trace, read_of, reads_of, is_accepted, goes_on}
+use Rattle.bank_spec.specs.CallLists.{Call, admission, latching, stepping, book_call, state_after, book_after, trace, read_of, reads_of, goes_on}
 
 -- the cells of block b among those read
 unfoldable pub cells_of : ℕ → List Place → List ℕ
@@ -16,8 +16,10 @@ cells_of b (p ∷ ps) = let rest = cells_of b ps in cond (eqb p.block b) (p.cell
 
 -- with this call, answered a from the book k on, a due scan of block b begins, or an admission ends all
 unfoldable pub begins_anew : Book → ℕ → Call → Answer → Bool
-begins_anew k b (admission h) a = is_accepted a
-begins_anew k b (pairing q) a = is_accepted a
+begins_anew k b (admission h) accepted = true
+begins_anew k b (admission h) (refused n) = false
+begins_anew k b (admission h) idle = false
+begins_anew k b (admission h) (went c d) = false
 begins_anew k b (latching ws) a = is_due k.next (block_at k.blocks b)
 begins_anew k b stepping a = false
 

@@ -1,1 +1,3 @@
 // Splitting a job in two: definitions and their laws.
+
+#![tactic(auto)]
