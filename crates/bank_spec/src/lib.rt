@@ -1,4 +1,7 @@
 // Bank, scan state, admission, latch, step, the book: definitions and their laws, demand 3 among them.
+
+#![tactic(auto)]
+
 use sheet_spec::MOST_OUTPUTS;
 use stored_spec::MOST_RECORD_BYTES;
 
@@ -16,7 +19,7 @@ pub const SCAN_NUMBERS: u8 = 8;
 
 // A bank: the scan limit S, how many blocks are held, and of each place the number of records, the records, 80 bytes, the
 // period and the phase.
-#[derive(Drop)]
+#[derive(Clone, Copy)]
 pub struct Bank {
     pub limit: u16,
     pub count: u8,
@@ -28,7 +31,7 @@ pub struct Bank {
 
 // A scan state: whether reads are left, the block, cell and rail word of the next read, the number of the scan that runs or ran
 // last, the word of each place from its last due scan, and the outputs, 8 a place: 0 or 1 where set, else 2.
-#[derive(Drop)]
+#[derive(Clone, Copy)]
 pub struct Scan {
     pub running: bool,
     pub block: u8,
@@ -40,7 +43,7 @@ pub struct Scan {
 }
 
 // What a step answers: the block and the cell that it read, that there is nothing to read, or the number of its refusal.
-#[derive(Drop)]
+#[derive(Clone, Copy)]
 pub enum StepAnswer {
     Went(u8, u8),
     Idle,

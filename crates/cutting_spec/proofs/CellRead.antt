@@ -10,7 +10,7 @@ use native.Mathlib.Numerals.{add-one}
 use native.Mathlib.Omega.{arith}
 use lib.ListN.{length, get_or, set, length-append}
 use lib.Seq.{get_or-set_same, get_or-set_other}
-use lib.Pow.{pow-add, shr-shr, low, mod-pow-add}
+use lib.Pow.{pow-add, shr-shr, mod-pow-add}
 use Rattle.laws.specs.Bits.{bit}
 use Rattle.laws.proofs.Cases.{by_test, by_equal, cond_yes}
 use Rattle.laws.proofs.Bits.{bit-suc}

@@ -7,13 +7,13 @@ use Prim.Native.Nat.{ℕ, zero, suc, ◌+◌, ◌-◌, ◌*◌, ◌^◌, ◌<◌
 use native.Mathlib.Nat.{mul-le-mul_right}
 use native.Mathlib.Omega.{arith}
 use lib.Dec.{leb, ltb}
-use lib.ListN.{length, get_or}
+use lib.ListN.{length}
 use lib.Pow.{pow-add}
 use borrow.Author.Tests.{lt-ltb, leb-true, le-leb}
 use Rattle.laws.proofs.Cases.{by_less, last_or_below, cond_yes, and_split, and_join}
 use Rattle.laws.proofs.Find.{least-hit, least_of_lem}
 use Rattle.laws.proofs.Masks.{not-both}
-use Rattle.sheet_spec.specs.Job.{Job, t, ins, outs}
+use Rattle.sheet_spec.specs.Job.{Job, t, ins}
 use Rattle.sheet_spec.specs.Refusals.{not_each_once, sheet_refusal}
 use Rattle.sheet_spec.specs.Table.{table}
 use Rattle.sheet_spec.specs.Accepted.{Accepted}

@@ -13,7 +13,6 @@ use Rattle.sheet_spec.specs.Job.{Job}
 use Rattle.sheet_spec.specs.Refusals.{sheet_refusal}
 use Rattle.sheet_spec.specs.Table.{table}
 use Rattle.reduction_spec.specs.Merge.{refuse7}
-use Rattle.reduction_spec.specs.Diagram.{nodes}
 use Rattle.reduction_spec.specs.Reduction.{Reduction, reduction_refusal, final_nodes, reduction}
 
 -- the answers

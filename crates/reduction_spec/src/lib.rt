@@ -1,4 +1,7 @@
 // Columns, cover, merging, the diagram and walks over it: definitions and their laws.
+
+#![tactic(auto)]
+
 use sheet_spec::MOST_VARIABLES;
 
 // The limits of the layer: columns at a height, nodes of a diagram, words of its node table, and a flag for each pair of columns.
@@ -17,7 +20,7 @@ pub type Widths = [u16; MOST_VARIABLES];
 pub type Links = [u8; LINKS];
 
 // A node of the diagram: its height, its child for 0 and its child for 1. Child 0 is constant 0, child 1 constant 1; node 2 stands first.
-#[derive(Drop)]
+#[derive(Clone, Copy)]
 pub struct Node {
     pub height: u16,
     pub low: u16,
@@ -26,7 +29,7 @@ pub struct Node {
 
 // The answer to a job and its sheet: a refusal, 1 to 7, or 0 and the number of nodes.
 #[repr(C)]
-#[derive(Drop)]
+#[derive(Clone, Copy)]
 pub struct Reduction {
     pub refusal: u8,
     pub nodes: u16,
@@ -34,7 +37,7 @@ pub struct Reduction {
 
 // The end of a walk from one cut to the next: the node reached and the outputs met, topmost most significant.
 #[repr(C)]
-#[derive(Drop)]
+#[derive(Clone, Copy)]
 pub struct Reached {
     pub node: u16,
     pub outputs: u32,

@@ -1,5 +1,7 @@
 // Records, job and order, what a sheet says of an output, refusals 1 to 6 and the table: definitions and their laws.
 
+#![tactic(auto)]
+
 // The limits of specs/Limits.antt, for the code of every layer.
 pub const MOST_INPUTS: usize = 12;
 

@@ -1,4 +1,7 @@
 // Cells and the stored form of cascades: definitions and their laws.
+
+#![tactic(auto)]
+
 ghost use Rattle.std.specs.Prelude.{◌≡◌};
 ghost use Rattle.stored_spec.specs.Cells.{fits, usable_rows, usable_bits};
 
@@ -12,7 +15,7 @@ pub const MOST_ROW_BYTES: usize = MOST_ROWS * 2;
 pub const MOST_RECORD_BYTES: usize = MOST_VARIABLES * 4;
 
 // A cell of a cascade by the number of its inputs and of its outputs, rails counted.
-#[derive(Drop)]
+#[derive(Clone, Copy)]
 pub struct Cell {
     pub inputs: usize,
     pub outputs: usize,
