@@ -1,4 +1,7 @@
 // Small numbers that every layer needs: widened, compared, read from bytes. Total, so that any crate may call them.
+
+#![tactic(auto)]
+
 ghost use Rattle.std.specs.Prelude.{◌≡◌, ◌+◌, ◌*◌, ◌<◌, ◌≤◌, min, get_or};
 
 pub fn wide(x: u8) -> usize
