@@ -1,4 +1,7 @@
 // The sheet layer: refusals 1 to 6 of a job and its sheet, and the table of the function.
+
+#![tactic(auto)]
+
 mod depends;
 mod lines;
 mod order;

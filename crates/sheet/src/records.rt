@@ -45,7 +45,7 @@ fn is_malformed(n: usize, m: usize, sheet: &[u8], r: usize) -> bool
 }
 
 pub fn any_malformed(n: usize, m: usize, sheet: &[u8]) -> bool
-    requires* { do ⌜ (n ≤ 12) × (m ≤ 8) ⌝ }
+    requires { (n ≤ 12) × (m ≤ 8) }
     ensures { result ≡ any_malformed n m sheet.now }
 {
     let count = sheet.len() / 8;

@@ -1,0 +1,12 @@
+-- `sheet::lines::output_list` meets its contract.
+-- Assumes nothing.
+use Prim.Native.Nat.{◌≤◌, ◌-◌}
+use Rattle.sheet_spec.specs.Job.{outputs_to}
+use Rattle.sheet.proofs.lines.OrderLists.{Listed}
+use Rattle.sheet.proofs.lines.output_list.Given as goal
+
+abbrev pub invariant-loop-h : goal.invariant-loop-h
+invariant-loop-h l = (l.h ≤ l.t) × Listed (outputs_to l.t l.order) l.initial.list l.list l.count l.h
+
+abbrev pub decreases-loop-h : goal.decreases-loop-h
+decreases-loop-h l = l.t - l.h
