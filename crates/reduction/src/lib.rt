@@ -1,4 +1,7 @@
 // The reduction layer: columns, compatibility, cover, merging and the diagram.
+
+#![tactic(auto)]
+
 mod casts;
 mod cover;
 mod distinct;

@@ -105,7 +105,7 @@ fn narrow_all(
 ) -> bool
     requires { (c < w) × (w ≤ 512) × Flags w (other c) row.old }
     ensures flags { Flags w (agree_to zs.now os.now c 8) row.new }
-    ensures c_value { result ≡ false → any w (agree_to zs.now os.now c 8) ≡ false }
+    ensures none_left { result ≡ false → any w (agree_to zs.now os.now c 8) ≡ false }
 {
     let mut x = 0;
     while x < 8 {
@@ -208,7 +208,7 @@ fn fill_row(
     os: &[u8; 4096],
     row: &mut [u8; MOST_COLUMNS],
 )
-    requires c_lt_w { (c < w) × (w ≤ 512) × (1 ≤ size) × (length row.old ≡ 512) × Inside w size firsts.now }
+    requires in_range { (c < w) × (w ≤ 512) × (1 ≤ size) × (length row.old ≡ 512) × Inside w size firsts.now }
     requires spread { Spread w zero.now size firsts.now 8 zs.now × Spread w one.now size firsts.now 8 os.now }
     ensures { Flags w (linked_words zero.now one.now size firsts.now c) row.new }
 {
@@ -251,7 +251,7 @@ fn link_row(
     os: &[u8; 4096],
     link: &mut Links,
 ) -> bool
-    requires c_lt_w { (c < w) × (w ≤ 512) × (1 ≤ size) × Inside w size firsts.now }
+    requires in_range { (c < w) × (w ≤ 512) × (1 ≤ size) × Inside w size firsts.now }
     requires spread { Spread w zero.now size firsts.now 8 zs.now × Spread w one.now size firsts.now 8 os.now }
     ensures value { result ≡ any w (linked_words zero.now one.now size firsts.now c) }
     ensures link_after { link.new
@@ -273,7 +273,7 @@ fn link_rows(
     os: &[u8; 4096],
     link: &mut Links,
 ) -> bool
-    requires w_bound { (w ≤ 512) × (1 ≤ size) × Inside w size firsts.now }
+    requires in_range { (w ≤ 512) × (1 ≤ size) × Inside w size firsts.now }
     requires spread { Spread w zero.now size firsts.now 8 zs.now × Spread w one.now size firsts.now 8 os.now }
     ensures value { result ≡ any w (λ c. any w (linked_words zero.now one.now size firsts.now c)) }
     ensures link_after { link.new

@@ -143,8 +143,8 @@ fn all_heights(
     widths: &mut Widths,
     words: &mut NodeWords,
 ) -> usize
-    requires widths_value { (widths.old ≡ replicate 20 0) × (words.old ≡ replicate 30720 0) }
-    requires by_index { (k : ℕ) × (l : ℕ) × (s : List ℕ) × (sheet_refusal (job n m k l order.now) s ≡ 0)
+    requires zeros { (widths.old ≡ replicate 20 0) × (words.old ≡ replicate 30720 0) }
+    requires accepted { (k : ℕ) × (l : ℕ) × (s : List ℕ) × (sheet_refusal (job n m k l order.now) s ≡ 0)
         × (zero.old ≡ puts 512 (packed_word (places_with (table_after (job n m k l order.now) s (replicate 32768 0)) n m 0)) (replicate 1024 0))
         × (one.old ≡ puts 512 (packed_word (places_with (table_after (job n m k l order.now) s (replicate 32768 0)) n m 1)) (replicate 1024 0)) }
     ensures { (k l : ℕ) (s : List ℕ) → (sheet_refusal (job n m k l order.now) s ≡ 0)
@@ -189,7 +189,7 @@ pub fn reduce_all(
 ) -> Reduction
     requires { (widths.old ≡ replicate 20 0) × (words.old ≡ replicate 30720 0) }
     ensures value { result ≡ reduction (job n m k l order.now) sheet.now }
-    ensures i_after { reduction_refusal (job n m k l order.now) sheet.now ≡ 0
+    ensures widths_after { reduction_refusal (job n m k l order.now) sheet.now ≡ 0
         → (i : ℕ) → i < n + m → get_or widths.new i 0 ≡ width (job n m k l order.now) (final_table (job n m k l order.now) sheet.now) i }
     ensures words_after { reduction_refusal (job n m k l order.now) sheet.now ≡ 0
         → words.new ≡ sets (replicate 30720 0) 0 (node_words (final_nodes (job n m k l order.now) sheet.now)) }
