@@ -1,4 +1,7 @@
 // Walks over the diagram, and the comparison of two columns by it.
+
+#![tactic(auto)]
+
 pub mod nodes;
 mod walks;
 

@@ -1,0 +1,20 @@
+-- `walks::compatible_columns` meets its contract.
+-- Assumes nothing.
+use mathlib.Core.Path.{sym, ◌∙◌, ap}
+use mathlib.Core.Bool.{Bool, ◌&&◌}
+use borrow.Author.Tests.{le-leb, lt-leb}
+use Rattle.reduction_spec.specs.Compare.{compatible_nodes, compatible_columns}
+use Rattle.walks.proofs.compatible_columns.Goals as goal
+
+pub returns-then-height-le20 : goal.returns-then-height-le20
+unfolding compatible_columns
+returns-then-height-le20 c =
+    let a = c.args in
+    c.compatible_nodes.ensures
+    ∙ sym (ap (λ (b : Bool). b && compatible_nodes a.words.now a.height a.v a.u) (le-leb a.height 20 c.if-height-le20.true))
+
+pub returns : goal.returns
+unfolding compatible_columns
+returns c =
+    let a = c.args in
+    sym (ap (λ (b : Bool). b && compatible_nodes a.words.now a.height a.v a.u) (lt-leb a.height 20 c.if-height-le20.false))
