@@ -7,7 +7,7 @@ use Prim.Native.Nat.{ℕ, ◌+◌, ◌*◌, ◌^◌, ◌≤◌, ◌<◌}
 use native.Mathlib.Omega.{arith}
 use lib.Dec.{eqb, leb}
 use borrow.Author.Tests.{leb-true, leb-false, lt-leb}
-use Rattle.laws.proofs.Cases.{by_test, and_split, and_left_no, cond_yes, cond_no}
+use Rattle.laws.proofs.Cases.{by_test, and_split, cond_yes, cond_no}
 use Rattle.sheet_spec.specs.Limits.{largest_inputs, largest_outputs}
 use Rattle.stored_spec.specs.RowBytes.{two_bytes, room}
 use Rattle.stored_spec.specs.Cells.{cell, fits}

@@ -4,7 +4,6 @@ use Rattle.std.specs.Prelude.{ℕ, false, List, [], length, get_or, replicate}
 use Rattle.laws.specs.Lists.{tab, puts}
 pub use Rattle.stored.specs.declared.StoredRecords.{StoredRecords}
 pub use Rattle.stored.specs.declared.ReadRecords.{ReadRecords}
-use Rattle.stored_spec.specs.StoredForm.{variable}
 use Rattle.stored_spec.specs.ReadWrite.{Record, Cascade, ReadAnswer, not_read, was_read, no_record}
 
 unfoldable pub records_of : StoredRecords → List Record

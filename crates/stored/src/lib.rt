@@ -1,4 +1,7 @@
 // Stored cascades: cells, the test of records and rows, where cells lie, reading and writing.
+
+#![tactic(auto)]
+
 mod casts;
 mod formed;
 mod places;
@@ -18,7 +21,7 @@ ghost use Rattle.stored_spec.specs.ReadWrite.{read, written_as, write};
 use sheet_spec::MOST_VARIABLES;
 
 // The records of a cascade, top first: of each its variable, whether a cut lies directly below, and the rails there.
-#[derive(Drop)]
+#[derive(Clone, Copy)]
 pub struct StoredRecords {
     pub count: u8,
     pub variables: [u8; MOST_VARIABLES],
@@ -27,14 +30,14 @@ pub struct StoredRecords {
 }
 
 // What reading answers: 12, or 0 and the records.
-#[derive(Drop)]
+#[derive(Clone, Copy)]
 pub struct ReadRecords {
     pub refusal: u8,
     pub records: StoredRecords,
 }
 
 // Where a cell of a stored cascade lies: the heights of its upper and its lower cut, and where its rows begin and end.
-#[derive(Drop)]
+#[derive(Clone, Copy)]
 pub struct CellPlace {
     pub top: usize,
     pub bottom: usize,
@@ -93,7 +96,7 @@ pub fn cell_place(records: &[u8], k: usize) -> CellPlace
 }
 
 // The rails above and below a cell.
-#[derive(Drop)]
+#[derive(Clone, Copy)]
 pub struct CellRails {
     pub upper: u8,
     pub lower: u8,
