@@ -15,7 +15,7 @@ use sheet_spec::MOST_OUTPUTS;
 
 // A cell of which some records are read. Its records begin at from, its rows at at. Of the inputs read: how many they are, which are known as
 // bits of a row address, the values of these, and how many fillings the others have; and how many outputs were read.
-#[derive(Drop)]
+#[derive(Clone, Copy)]
 pub struct Begun {
     pub from: usize,
     pub at: usize,

@@ -17,7 +17,7 @@ pub type RailSet = [u64; RAIL_WORDS];
 // Where the rows of a cell lie that agree with the known inputs. Those of rail word r begin at at + r * block; there the bits of mask are the known
 // inputs, which have the values of value, and those of free the others, which have count fillings. low are the lower rails, and the set has
 // its rail words in the first words words.
-#[derive(Drop)]
+#[derive(Clone, Copy)]
 pub struct Addresses {
     pub at: usize,
     pub block: usize,
@@ -30,14 +30,14 @@ pub struct Addresses {
 }
 
 // Of the rows read: the bits that some of them has, and those that each has.
-#[derive(Drop)]
+#[derive(Clone, Copy)]
 pub struct Seen {
     pub some: u16,
     pub each: u16,
 }
 
 // The same of rows whose rail words are below 64: the rail words are bits of one word.
-#[derive(Drop)]
+#[derive(Clone, Copy)]
 pub struct Few {
     pub some: u16,
     pub each: u16,

@@ -1,4 +1,7 @@
 // Evaluation of stored cascades: which outputs are certain where some inputs are not known.
+
+#![tactic(auto)]
+
 mod cells;
 mod gather;
 
@@ -10,7 +13,7 @@ use crate::cells::certain_outputs;
 use sheet_spec::MOST_OUTPUTS;
 
 // What an evaluation answers: 12, or 0 and the outputs, each 0, 1 or 2 for unknown.
-#[derive(Drop)]
+#[derive(Clone, Copy)]
 pub struct Evaluation {
     pub refusal: u8,
     pub outputs: [u8; MOST_OUTPUTS],

@@ -10,7 +10,6 @@ use lib.Dec.{eqb}
 use lib.ListN.{length, get_or, get_or-append}
 use lib.Seq.{get_or_at}
 use borrow.Author.Tests.{eqb-true, eq-eqb, lt-ltb}
-use Rattle.laws.specs.Tests.{within}
 use Rattle.laws.proofs.Cases.{by_test, last_or_below, and_join, cond_yes, cond_no, cond_both}
 use Rattle.stored_spec.specs.StoredForm.{StoredCell, Reading, record_count, variable, cut_byte, rail_byte, with_variable, with_cut, reading, stored_cells, cell_count, no_cell, cell_at, records_formed}
 use Rattle.stored.specs.Reads.{has_cell}

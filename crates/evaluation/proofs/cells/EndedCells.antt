@@ -49,7 +49,7 @@ module _ (R bytes : List ℕ) (known w i : ℕ) (formed : well_formed R bytes �
     pub few_in : c.upper + c.ins ≤ 12
     pub few_out : c.outs + rail_byte R i ≤ 16
     pub few-low : rail_byte R i ≤ 12
-    pub rows_in_lem : c.at + 2 ^ c.upper * 2 ^ c.ins ≤ length bytes / 2
+    pub rows_in : c.at + 2 ^ c.upper * 2 ^ c.ins ≤ length bytes / 2
     pub rows_few : length bytes / 2 ≤ 32768
 
   -- the rows of each rail word of the set lie within the cascade's, and the numbers are small
@@ -98,7 +98,7 @@ module _ (R bytes : List ℕ) (known w i : ℕ) (formed : well_formed R bytes �
         few_in = omega (arith, u, n, inputs-few R records k there);
         few_out = omega (arith, o, l, outputs-few known w R bytes records k there);
         few-low = omega (arith, l, few-lower R records k there);
-        rows_in_lem = omega (arith, a, ap₂ (λ (x y : ℕ). 2 ^ x * 2 ^ y) u n, cell-rows, row_count_lem);
+        rows_in = omega (arith, a, ap₂ (λ (x y : ℕ). 2 ^ x * 2 ^ y) u n, cell-rows, row_count_lem);
         rows_few = omega (arith, row_count_lem, (records_have two_bytes R records).rows);
       }
 
