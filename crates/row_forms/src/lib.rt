@@ -1,4 +1,7 @@
 // Moves a stored cascade from one byte a row to two, for panels of today, and back, for old panels (document 02, §7).
+
+#![tactic(auto)]
+
 mod narrowing;
 mod widening;
 
