@@ -6,12 +6,12 @@ use mathlib.Core.List.{List, [], ◌∷◌}
 use Prim.Native.Nat.{ℕ, zero, suc, ◌+◌, ◌-◌, ◌<◌, ◌≤◌}
 use native.Mathlib.Nat.{not-suc-le-zero}
 use native.Mathlib.Omega.{arith}
-use lib.Dec.{eqb, ltb}
+use lib.Dec.{ltb}
 use lib.ListN.{length, get_or, take, drop}
 use lib.Seq.{drop-drop}
 use borrow.Author.Tests.{lt-ltb}
-use Rattle.laws.specs.Tests.{every, sum}
-use Rattle.laws.proofs.Cases.{and_split, and_join, cond_yes}
+use Rattle.laws.specs.Tests.{sum}
+use Rattle.laws.proofs.Cases.{and_join, cond_yes}
 use Rattle.laws.proofs.Counts.{sum_front}
 use Rattle.sheet_spec.specs.Job.{Job, t}
 use Rattle.sheet_spec.specs.Refusals.{sheet_refusal}
@@ -20,7 +20,7 @@ use Rattle.sheet_spec.proofs.Promises.{ins_rise, outs_rise, ins-outs}
 use Rattle.cutting_spec.specs.Cuts.{CutList, cell_between}
 use Rattle.stored_spec.specs.Cells.{rows}
 use Rattle.cutting_spec.specs.Choice.{refuse8}
-use Rattle.stored_spec.specs.StoredForm.{cell_at, cell_count, row_count, rows_before, records_formed, stored}
+use Rattle.stored_spec.specs.StoredForm.{cell_at, cell_count, rows_before, records_formed, stored}
 use Rattle.stored_spec.proofs.Promises.{formed-records}
 use Rattle.cutting_spec.specs.Compile.{made}
 use Rattle.cutting_spec.specs.Listing.{cell_lines}

@@ -9,7 +9,7 @@ use numbers::wide;
 use stored_spec::Cell;
 
 // The best way from a height: its number of cuts, the bits of its cells, and the next cut below. No cuts: there is no way.
-#[derive(Drop)]
+#[derive(Clone, Copy)]
 pub struct Way {
     pub cuts: u8,
     pub bits: u32,
@@ -17,7 +17,7 @@ pub struct Way {
 }
 
 // The chosen list's cells and bits; no cells: there is no list.
-#[derive(Drop)]
+#[derive(Clone, Copy)]
 pub struct Chosen {
     pub cells: u8,
     pub bits: u32,

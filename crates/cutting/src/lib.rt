@@ -1,4 +1,7 @@
 // The cutting layer: the chosen cut list, rows, the stored form and the whole compiler.
+
+#![tactic(auto)]
+
 mod casts;
 mod cell_rows;
 mod cells;
@@ -19,7 +22,7 @@ use numbers::wide16;
 use reduction_spec::Widths;
 
 // What the compiler answers: a refusal, 1 to 11, or 0 and the totals. widths[h] is the width at height h, for 0 to t - 1, and 0 above.
-#[derive(Drop)]
+#[derive(Clone, Copy)]
 pub struct Compilation {
     pub refusal: u8,
     pub nodes: u16,

@@ -12,7 +12,7 @@ use numbers::{wide, wide16};
 use reduction_spec::Widths;
 
 // The inputs and rails at the heights 0 to t, the cuts, top first, cells + 1 of them, and the totals. No cells: there is no cut list.
-#[derive(Drop)]
+#[derive(Clone, Copy)]
 pub struct Plan {
     pub inputs: [u8; 21],
     pub rails: [u8; 21],

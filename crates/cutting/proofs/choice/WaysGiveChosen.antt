@@ -15,7 +15,7 @@ use Rattle.sheet_spec.specs.Refusals.{not_each_once}
 use Rattle.stored_spec.specs.Cells.{fits, bits, all_fit, bit_total}
 use Rattle.cutting_spec.specs.Cuts.{CutList, bottom, next, cut_lists, cell_inputs, cell_outputs, cell_between, cells_of}
 use Rattle.stored_spec.specs.Rails.{rails_at}
-use Rattle.cutting_spec.specs.Choice.{longer, admissible, better, is_none, best, chosen, refuse8}
+use Rattle.cutting_spec.specs.Choice.{longer, admissible, better, is_none, chosen, refuse8}
 use Rattle.cutting.specs.Ways.{Way, no_way, through, goes, falling, job_way, list_cell, list_way}
 use Rattle.sheet_spec.proofs.Promises.{ins-outs}
 use Rattle.cutting_spec.proofs.RowLimit.{cells-next, admissible-fits}

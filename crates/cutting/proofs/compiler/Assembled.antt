@@ -41,7 +41,7 @@ use Rattle.cutting_spec.proofs.StoredCuts.{length-stored}
 use Rattle.cutting.proofs.plan.PlanOfCascade.{plan, widths-answered, up_width, up_small, first_is, plan_rails, plan_inputs, plan_none, plan_cells, plan_bits, plan_few, plan_length, plan_cuts}
 use Rattle.cutting.proofs.plan.PlannedRows.{rows_counted_lem, cell_writable, rows-stored}
 use Rattle.cutting.proofs.Outcomes.{outcome_early, outcome_8, outcome_9, outcome_10, outcome_11, outcome-accepted}
-use Rattle.stored_spec.specs.RowBytes.{two_bytes, row_bytes}
+use Rattle.stored_spec.specs.RowBytes.{two_bytes}
 use Rattle.stored_spec.proofs.Promises.{length-row_bytes, room_two}
 use Rattle.cutting.proofs.row_bytes.BytesPut.{bytes_put}
 use Rattle.cutting.proofs.Enough.{rows_few}
@@ -63,7 +63,7 @@ pub record Kept (j : Job) (s : List ℕ) (r : Reduction) (ws words : List ℕ) (
   pub nodes_fit : r.nodes * 3 ≤ length nodes
   pub records_fit : t j * 4 ≤ length records
   pub rows_fit : rows_to p.rails p.inputs p.cuts p.cells ≤ 12288
-  pub bytes_fit_lem : p.rows * 2 ≤ length rows
+  pub bytes_fit : p.rows * 2 ≤ length rows
   pub columns : (g : ℕ) → g ≤ t j → width_up (t j) ws g ≤ 512
   pub writable : (i : ℕ) → i < p.cells
       → Writable (t j) words j.order ws p.rails p.inputs (get_or p.cuts i 0) (get_or p.cuts (i + 1) 0)
@@ -321,7 +321,7 @@ module _ (j : Job) (s : List ℕ) (r : Reduction) (is : r ≡ reduction j s) whe
           nodes_fit = room;
           records_fit = space;
           rows_fit = rows_fit ws words ws-is words-is p p-is p.cells refl some;
-          bytes_fit_lem = omega (arith, enough);
+          bytes_fit = omega (arith, enough);
           columns = columns-few ws words ws-is words-is p p-is p.cells refl some;
           writable = writable ws words ws-is words-is p p-is p.cells refl some;
           stored =

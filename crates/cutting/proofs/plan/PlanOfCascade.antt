@@ -16,7 +16,7 @@ use Rattle.laws.proofs.Lists.{length-tab, get_or-tab}
 use Rattle.laws.proofs.Filled.{laid, written-sets}
 use Rattle.laws.proofs.Counts.{sum_ext}
 use Rattle.laws.proofs.Puts.{stored}
-use Rattle.sheet_spec.specs.Job.{Job, t, ins, outs}
+use Rattle.sheet_spec.specs.Job.{Job, t, ins}
 use Rattle.sheet_spec.specs.Refusals.{sheet_refusal}
 use Rattle.sheet_spec.specs.Table.{table}
 use Rattle.sheet_spec.proofs.Promises.{job-accepted}
@@ -24,7 +24,7 @@ use Rattle.reduction_spec.specs.Columns.{firsts_at, width, layers, width_in}
 use Rattle.reduction_spec.specs.Merge.{reduced, refuse7}
 use Rattle.reduction_spec.specs.Diagram.{nodes_above}
 use Rattle.reduction_spec.specs.Reduction.{reduction_refusal, final_table, final_widths, widths_after}
-use Rattle.reduction_spec.proofs.Promises.{width_few, width_top, width_most, width-layer, not-refused}
+use Rattle.reduction_spec.proofs.Promises.{width_top, width_most, width-layer, not-refused}
 use Rattle.stored_spec.specs.Rails.{rails, rails_at}
 use Rattle.cutting_spec.specs.Choice.{refuse8}
 use Rattle.cutting.specs.Ways.{Way, falling, job_way, list_cell, list_way, next_from}
