@@ -1,7 +1,4 @@
 -- Laws that more than one source file needs, or that other crates may cite: those are `pub`. Laws of one source file stand in its folder.
-mod FreedLocals
-mod LocalArrays
-mod LocalWords
 pub mod Promises
 pub mod WholeSizes
 mod WordsAndNodes

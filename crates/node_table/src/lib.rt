@@ -1,4 +1,7 @@
 // The compiler over a node table of node records. It makes them as cutting's compiler does, in words, three a node.
+
+#![tactic(auto)]
+
 mod nodes;
 mod words;
 

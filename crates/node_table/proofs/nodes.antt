@@ -1,2 +1,0 @@
--- Laws of `src/nodes.rt`.
-pub mod LentAgain
