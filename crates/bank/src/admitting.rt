@@ -41,6 +41,7 @@ pub fn at_rest() -> Scan
     }
 }
 
+#[tactic(auto, unfolding(crate::specs::Given::started, bank_spec::specs::State::limit_refused))]
 pub fn start(limit: u16) -> Started
     ensures { result ≡ started limit }
 {

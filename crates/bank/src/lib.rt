@@ -1,5 +1,8 @@
 // The bank layer: admission, latch and step, on a bank and a scan state by value and a lent row memory; latch and step also on a scan
 // state that is lent.
+
+#![tactic(auto)]
+
 mod admitting;
 mod due_blocks;
 mod formed;
@@ -15,7 +18,7 @@ ghost use Rattle.bank.specs.Given.{given_number, given_answer, started};
 use bank_spec::{Bank, MOST_BLOCKS, Scan, StepAnswer};
 
 // A new bank and its fresh scan state; refusal 1 where S is out of range.
-#[derive(Drop)]
+#[derive(Clone, Copy)]
 pub struct Started {
     pub refusal: u8,
     pub bank: Bank,
@@ -23,7 +26,7 @@ pub struct Started {
 }
 
 // What admission answers: 0 or its refusal, and bank and scan state after.
-#[derive(Drop)]
+#[derive(Clone, Copy)]
 pub struct Admitted {
     pub refusal: u8,
     pub bank: Bank,
@@ -31,14 +34,14 @@ pub struct Admitted {
 }
 
 // What a latch answers: 0 or 12, and the scan state after.
-#[derive(Drop)]
+#[derive(Clone, Copy)]
 pub struct Latched {
     pub refusal: u8,
     pub scan: Scan,
 }
 
 // What a step answers, and the scan state after.
-#[derive(Drop)]
+#[derive(Clone, Copy)]
 pub struct Stepped {
     pub answer: StepAnswer,
     pub scan: Scan,

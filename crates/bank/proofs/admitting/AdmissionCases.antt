@@ -1,4 +1,4 @@
--- What admission answers and leaves, case by case: each refusal, and acceptance; and a bank that is made.
+-- What admission answers and leaves, case by case: each refusal, and acceptance.
 -- Assumes nothing.
 use mathlib.Core.Path.{◌≡◌, refl, sym, ◌∙◌, ap, ap₂}
 use mathlib.Core.Bool.{Bool, true, false, cond, not, ◌||◌}
@@ -18,33 +18,14 @@ use Rattle.stored_spec.specs.StoredForm.{well_formed, record_count, cell_count, 
 use Rattle.stored.specs.Reads.{rows_counted}
 use Rattle.stored_spec.proofs.Promises.{records_have, formed_parts, room_two}
 use Rattle.stored.proofs.Promises.{cells-all, cells-few, formed_fit, rows_counted_lem}
-use Rattle.bank_spec.specs.State.{State, rows_before, cells_held, rows_held, formed, at_rest, empty_bank, limit_refused, state_of}
+use Rattle.bank_spec.specs.State.{State, rows_before, cells_held, rows_held, formed, at_rest, state_of}
 use Rattle.bank_spec.specs.Due.{timed, due_cells}
 use Rattle.bank_spec.specs.declared.Bank.{Bank}
 use Rattle.bank_spec.specs.declared.Scan.{Scan}
 use Rattle.bank_spec.specs.Calls.{After, numbered, Handed, handed, admit_refusal, with_block, admitted, admit}
-use Rattle.bank.specs.Given.{Started, given_number, started}
+use Rattle.bank.specs.Given.{given_number}
 use Rattle.bank.proofs.due_blocks.DueTests.{fits_at}
 use Rattle.bank.proofs.formed.HeldBlocks.{BankHas, bank-has, state-bank}
-
--- a bank that is made
-abbrev refused_start : Started
-refused_start = record { refusal = 1; bank = empty_bank 0; scan = at_rest }
-
-abbrev made_start : ℕ → Started
-made_start S = record { refusal = 0; bank = empty_bank S; scan = at_rest }
-
-pub started-low : (S : ℕ) → S < 1 → refused_start ≡ started S
-unfolding started limit_refused
-started-low S l = rw (lt-leb 1 S l) refl
-
-pub started-high : (S : ℕ) → 1 ≤ S → 255 < S → refused_start ≡ started S
-unfolding started limit_refused
-started-high S l h = rw (le-leb 1 S l, lt-leb S 255 h) refl
-
-pub started-good : (S : ℕ) → 1 ≤ S → S ≤ 255 → made_start S ≡ started S
-unfolding started limit_refused
-started-good S l h = rw (le-leb 1 S l, le-leb S 255 h) refl
 
 -- the bank with the block, from its parts
 pub block-added : (k : Bank) (R bytes : List ℕ) (period phase : ℕ) {n : ℕ} {held : List ℕ} → n ≡ k.count → n * 80 + length R ≤ length k.records

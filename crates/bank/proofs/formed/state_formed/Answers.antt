@@ -1,0 +1,16 @@
+-- `state_formed` tests a bank and a scan state.
+-- Assumes nothing.
+use mathlib.Core.Path.{sym, ◌∙◌}
+use Rattle.bank_spec.specs.State.{formed}
+use Rattle.bank.proofs.formed.state_formed.Goals as goal
+
+pub scan_formed-requires : goal.scan_formed-requires
+scan_formed-requires c = sym c.bank_formed.ensures ∙ c.if-bank_formed.true
+
+pub returns-then-bank_formed : goal.returns-then-bank_formed
+unfolding formed
+returns-then-bank_formed c = rw (sym c.bank_formed.ensures ∙ c.if-bank_formed.true) c.scan_formed.ensures
+
+pub returns : goal.returns
+unfolding formed
+returns c = rw (sym c.bank_formed.ensures ∙ c.if-bank_formed.false)
