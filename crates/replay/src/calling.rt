@@ -12,7 +12,7 @@ use crate::coded::{byte_at, pair_at, triple_at, words_in};
 use bank_spec::{Bank, Scan, StepAnswer};
 
 // A call's answer (0 accepted, 1 and the number of a refusal, 2 Idle, 3 with block and cell) and bank and scan state after.
-#[derive(Drop)]
+#[derive(Clone, Copy)]
 pub struct Called {
     pub kind: u8,
     pub first: u8,

@@ -6,7 +6,7 @@ ghost use Rattle.replay.specs.Coded.{pair, triple, said_size, size, calls_in, re
 use numbers::wide;
 
 // The calls of a list that is whole.
-#[derive(Drop)]
+#[derive(Clone, Copy)]
 pub struct Counted {
     pub whole: bool,
     pub calls: usize,

@@ -1,4 +1,7 @@
 // A list of calls in bytes, run on a bank; what is compared after each call is written down.
+
+#![tactic(auto)]
+
 mod calling;
 mod coded;
 mod running;
