@@ -9,7 +9,7 @@ use crate::words::{byte_in, is_bytes, is_number, number, put_bytes};
 use numbers::least;
 
 // A period and a phase, and whether they can be read.
-#[derive(Drop)]
+#[derive(Clone, Copy)]
 struct Times {
     good: bool,
     period: u8,

@@ -1,4 +1,7 @@
 // A list of calls as text, tidied and read into its bytes. Also a line that says which inputs are known.
+
+#![tactic(auto)]
+
 mod admissions;
 mod blanks;
 mod known;
@@ -20,7 +23,7 @@ use crate::words::byte_in;
 
 // What reading a text answers: 11 where the memory for the calls is too short, how many bytes of calls there are, and the number of the line that
 // can't be read, 0 where there is none.
-#[derive(Drop)]
+#[derive(Clone, Copy)]
 pub struct TextRead {
     pub refusal: u8,
     pub size: usize,
@@ -28,14 +31,14 @@ pub struct TextRead {
 }
 
 // A tidied text: 11 where the memory for it is shorter than the text, and its length.
-#[derive(Drop)]
+#[derive(Clone, Copy)]
 pub struct TextTidied {
     pub refusal: u8,
     pub size: usize,
 }
 
 // What a line known=HEX word=HEX says; nothing is known where it can't be read.
-#[derive(Drop)]
+#[derive(Clone, Copy)]
 pub struct KnownRead {
     pub good: bool,
     pub known: u16,

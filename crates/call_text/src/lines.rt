@@ -11,7 +11,7 @@ use crate::words::{begins, byte_in, hex_byte, is_hex, is_number, number};
 use numbers::byte_at;
 
 // A line: whether it can be read, and how many bytes its call has.
-#[derive(Drop)]
+#[derive(Clone, Copy)]
 pub struct LineRead {
     pub good: bool,
     pub size: usize,

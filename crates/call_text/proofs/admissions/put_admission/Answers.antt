@@ -1,0 +1,19 @@
+-- `admissions::put_admission` meets its contract.
+-- Assumes nothing.
+use native.Mathlib.Omega.{arith}
+use Rattle.call_text.specs.Words.{bytes_of}
+use Rattle.call_text.proofs.CallLaws.{bytes_fit_lem, length-bytes, put_admission, length-admission}
+use Rattle.call_text.proofs.admissions.put_admission.Goals as goal
+
+pub put_sizes-requires : goal.put_sizes-requires
+put_sizes-requires c =
+    ((bytes_fit_lem c.args.records.now c.requires.0).1, (bytes_fit_lem c.args.rows.now c.requires.1).1, omega arith)
+
+pub returns : goal.returns
+returns c =
+    let R = c.args.records.now in
+    let Q = c.args.rows.now in
+    record {
+      value = omega (arith, length-admission (bytes_of R) (bytes_of Q), length-bytes R, length-bytes Q);
+      code_after = put_admission R Q c.args.code.now _ _ c.args.at (omega arith) c.put_sizes.ensures c.put_parts.ensures;
+    }
