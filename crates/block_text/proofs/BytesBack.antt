@@ -8,7 +8,7 @@ use native.Mathlib.Omega.{arith}
 use lib.Dec.{eqb, ltb}
 use lib.ListN.{length, get_or}
 use borrow.Author.Tests.{eq-eqb, ne_eqb, lt-ltb, le-ltb}
-use Rattle.laws.specs.Tests.{every, within}
+use Rattle.laws.specs.Tests.{within}
 use Rattle.laws.specs.Lists.{tab}
 use Rattle.laws.proofs.Cases.{by_less, by_equal, cond_yes, cond_no, cond-each, and_join}
 use Rattle.laws.proofs.Lists.{length-tab, get_or-tab, by_elements}

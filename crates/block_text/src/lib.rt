@@ -1,4 +1,7 @@
 // The line of a list of calls that admits a block, written into lent memory.
+
+#![tactic(auto)]
+
 mod lines;
 
 ghost use Rattle.std.specs.Prelude.{◌≡◌, take};
@@ -7,7 +10,7 @@ ghost use Rattle.block_text.specs.BlockLine.{write_line, ReadsBack};
 use crate::lines::{put_line, text_size};
 
 // What writing a line answers: 12 where there are too many bytes, 11 where the memory is too short, and how long the line is.
-#[derive(Drop)]
+#[derive(Clone, Copy)]
 pub struct LineWritten {
     pub refusal: u8,
     pub size: usize,
