@@ -1,4 +1,7 @@
 // What the firmware calls, on numbers and lent bytes: the compiler with its widths, and the bank with bank and scan state as bytes.
+
+#![tactic(auto)]
+
 mod state_bytes;
 
 ghost use Rattle.std.specs.Prelude.{◌≡◌, [], get_or};
@@ -26,7 +29,7 @@ pub type ScanBytes = [u8; SCAN_BYTES];
 
 // The compiler's answer: a refusal, 1 to 11, or 0 and the totals.
 #[repr(C)]
-#[derive(Drop)]
+#[derive(Clone, Copy)]
 pub struct Totals {
     pub refusal: u8,
     pub nodes: u16,
@@ -37,7 +40,7 @@ pub struct Totals {
 
 // A step's answer: kind 1 with the block and the cell that were read, 0 for Idle, 2 with the number of the refusal.
 #[repr(C)]
-#[derive(Drop)]
+#[derive(Clone, Copy)]
 pub struct StepNumbers {
     pub kind: u8,
     pub block: u8,
