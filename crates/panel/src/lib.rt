@@ -1,5 +1,8 @@
 // What C calls, and nothing else: each function passes on to the layer that has it. A slice is a pointer and a size_t; slices lent to one call must
 // not overlap.
+
+#![tactic(auto)]
+
 ghost use Rattle.std.specs.Prelude.{◌≡◌, []};
 ghost use Rattle.sheet_spec.specs.Job.{job};
 ghost use Rattle.sheet_spec.specs.Refusals.{sheet_refusal};
@@ -29,23 +32,20 @@ pub const VERSION: u32 = 131072;
 pub const LAYOUT: u32 = 3;
 
 // What the header of the same release has, for a firmware to compare when it starts.
-#[unsafe(no_mangle)]
-pub extern "C" fn cascade_version() -> u32
+pub fn cascade_version() -> u32
     ensures { result ≡ version }
 {
     VERSION
 }
 
-#[unsafe(no_mangle)]
-pub extern "C" fn cascade_layout() -> u32
+pub fn cascade_layout() -> u32
     ensures { result ≡ layout }
 {
     LAYOUT
 }
 
 // The least of refusals 1 to 6 of a job and its sheet; 0 where there is none.
-#[unsafe(no_mangle)]
-pub extern "C" fn cascade_sheet_refusal(
+pub fn cascade_sheet_refusal(
     n: usize,
     m: usize,
     k: usize,
@@ -59,8 +59,7 @@ pub extern "C" fn cascade_sheet_refusal(
 }
 
 // The same; where the answer is 0 the table of the function is written to the front of the lent 32,768 bytes.
-#[unsafe(no_mangle)]
-pub extern "C" fn cascade_sheet_table(
+pub fn cascade_sheet_table(
     n: usize,
     m: usize,
     k: usize,
@@ -76,8 +75,7 @@ pub extern "C" fn cascade_sheet_table(
 
 // The reduction: the least of refusals 1 to 7, or 0 and the number of nodes; then widths[h] is the width at height h, for 0 to t - 1, and
 // words holds height, low and high child of each node. On a refusal both are as they were.
-#[unsafe(no_mangle)]
-pub extern "C" fn cascade_reduce(
+pub fn cascade_reduce(
     n: usize,
     m: usize,
     k: usize,
@@ -94,31 +92,27 @@ pub extern "C" fn cascade_reduce(
 }
 
 // Where a walk over the node words from the node at the height ends; bit g of bits is the value of the variable at height g + 1.
-#[unsafe(no_mangle)]
-pub extern "C" fn cascade_walk(words: &NodeWords, bits: u32, height: u8, node: u16) -> u16
+pub fn cascade_walk(words: &NodeWords, bits: u32, height: u8, node: u16) -> u16
     ensures { result ≡ walk words.now bits height node }
 {
     walks::walk(words, bits, height, node)
 }
 
 // The columns of the nodes v and u at one height are the same; are compatible.
-#[unsafe(no_mangle)]
-pub extern "C" fn cascade_same_columns(words: &NodeWords, height: u8, v: u16, u: u16) -> bool
+pub fn cascade_same_columns(words: &NodeWords, height: u8, v: u16, u: u16) -> bool
     ensures { result ≡ same_columns words.now height v u }
 {
     walks::same_columns(words, height, v, u)
 }
 
-#[unsafe(no_mangle)]
-pub extern "C" fn cascade_compatible_columns(words: &NodeWords, height: u8, v: u16, u: u16) -> bool
+pub fn cascade_compatible_columns(words: &NodeWords, height: u8, v: u16, u: u16) -> bool
     ensures { result ≡ compatible_columns words.now height v u }
 {
     walks::compatible_columns(words, height, v, u)
 }
 
 // From the node at the cut top down to the cut bottom; inputs are the values of the count inputs between, topmost most significant.
-#[unsafe(no_mangle)]
-pub extern "C" fn cascade_descent(
+pub fn cascade_descent(
     words: &NodeWords,
     order: &[u8],
     top: u8,
@@ -134,8 +128,7 @@ pub extern "C" fn cascade_descent(
 
 // The compiler. Where nothing is refused nodes holds three words a node, records the stored records, rows the row tables, each kept past
 // its written part, and widths the widths at the heights 0 to t - 1, then zeros; on a refusal all four are as they were.
-#[unsafe(no_mangle)]
-pub extern "C" fn cascade_compile(
+pub fn cascade_compile(
     n: usize,
     m: usize,
     k: usize,
@@ -155,8 +148,7 @@ pub extern "C" fn cascade_compile(
 
 // Which outputs of a stored cascade are certain where the inputs of the mask are known and are those of the word: 0, and each output is 0, 1 or 2 for
 // unknown; or 12, and the outputs are as they were.
-#[unsafe(no_mangle)]
-pub extern "C" fn cascade_known(
+pub fn cascade_known(
     records: &[u8],
     rows: &[u8],
     known: u16,
@@ -169,13 +161,7 @@ pub extern "C" fn cascade_known(
 }
 
 // A stored cascade with one byte a row, moved to two bytes a row in the lent memories: 0, or 12, 10 or 11 and they are as they were.
-#[unsafe(no_mangle)]
-pub extern "C" fn cascade_widen(
-    stored: &[u8],
-    bytes: &[u8],
-    records: &mut [u8],
-    rows: &mut [u8],
-) -> u8
+pub fn cascade_widen(stored: &[u8], bytes: &[u8], records: &mut [u8], rows: &mut [u8]) -> u8
     ensures { written_as result records.new rows.new
         ≡ widen stored.now bytes.now records.old rows.old }
 {
@@ -183,13 +169,7 @@ pub extern "C" fn cascade_widen(
 }
 
 // One with two bytes a row, moved to one byte a row: 0, or 12, 10, 11 or 15 and they are as they were.
-#[unsafe(no_mangle)]
-pub extern "C" fn cascade_narrow(
-    stored: &[u8],
-    bytes: &[u8],
-    records: &mut [u8],
-    rows: &mut [u8],
-) -> u8
+pub fn cascade_narrow(stored: &[u8], bytes: &[u8], records: &mut [u8], rows: &mut [u8]) -> u8
     ensures { written_as result records.new rows.new
         ≡ narrow stored.now bytes.now records.old rows.old }
 {
@@ -197,16 +177,14 @@ pub extern "C" fn cascade_narrow(
 }
 
 // A new bank with the scan limit S, and its fresh scan state; 1 where S is out of range, and then both are as they were.
-#[unsafe(no_mangle)]
-pub extern "C" fn cascade_bank_new(limit: usize, bank: &mut BankBytes, scan: &mut ScanBytes) -> u8
+pub fn cascade_bank_new(limit: usize, bank: &mut BankBytes, scan: &mut ScanBytes) -> u8
     ensures { called result bank.new scan.new [] ≡ new_bytes limit bank.old scan.old }
 {
     panel_calls::new_bank(limit, bank, scan)
 }
 
 // Admits a block, its records and its rows, and appends the rows to the row memory: 0, or 12, 13, 14 or 11 and nothing changes.
-#[unsafe(no_mangle)]
-pub extern "C" fn cascade_admit(
+pub fn cascade_admit(
     bank: &mut BankBytes,
     scan: &mut ScanBytes,
     records: &[u8],
@@ -219,8 +197,7 @@ pub extern "C" fn cascade_admit(
     panel_calls::admit(bank, scan, records, bytes, rows)
 }
 
-#[unsafe(no_mangle)]
-pub extern "C" fn cascade_admit_every(
+pub fn cascade_admit_every(
     bank: &mut BankBytes,
     scan: &mut ScanBytes,
     records: &[u8],
@@ -236,20 +213,14 @@ pub extern "C" fn cascade_admit_every(
 }
 
 // Latches eight words and starts a scan: 0, or 12 and nothing changes.
-#[unsafe(no_mangle)]
-pub extern "C" fn cascade_latch(
-    bank: &BankBytes,
-    scan: &mut ScanBytes,
-    words: &[u16; MOST_BLOCKS],
-) -> u8
+pub fn cascade_latch(bank: &BankBytes, scan: &mut ScanBytes, words: &[u16; MOST_BLOCKS]) -> u8
     ensures { called result bank.now scan.new [] ≡ latch_bytes bank.now scan.old words.now }
 {
     panel_calls::latch(bank, scan, words)
 }
 
 // Moves the scan on by one read of the row memory; where nothing is read nothing changes.
-#[unsafe(no_mangle)]
-pub extern "C" fn cascade_step(bank: &BankBytes, scan: &mut ScanBytes, rows: &[u8]) -> StepNumbers
+pub fn cascade_step(bank: &BankBytes, scan: &mut ScanBytes, rows: &[u8]) -> StepNumbers
     ensures { called result bank.now scan.new rows.now ≡ step_bytes bank.now scan.old rows.now }
 {
     panel_calls::step(bank, scan, rows)
