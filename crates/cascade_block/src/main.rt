@@ -1,4 +1,7 @@
 // Prints the cascade of the job and sheet on standard input as the line of `bank_replay` that admits it.
+
+#![tactic(auto)]
+
 ghost use Rattle.std.specs.Prelude.{◌≡◌, length};
 
 use numbers::least;
@@ -14,25 +17,25 @@ fn line_memory() -> [u8; MOST_LINE]
 }
 
 // The line, or "refused N"; whether it was refused is in the answer.
-fn say_block(out: &mut [u8], input: &[u8]) -> bool {
+fn say_block(rt: HostRuntime, out: &mut [u8], input: &[u8]) -> bool {
     let mut text = line_memory();
     let made = listing::block_input(input, &mut text);
     if made.refusal != 0 {
-        let said = say_refused(out, 0, made.refusal);
-        return printing::end(out, said);
+        let said = say_refused(rt, out, 0, made.refusal);
+        return printing::end(rt, out, said);
     }
     let size = least(made.size, MOST_LINE);
-    let said = say(out, 0, &text[..size]);
-    printing::end(out, said);
+    let said = say(rt, out, 0, &text[..size]);
+    printing::end(rt, out, said);
     false
 }
 
 // Of more than 4,096 bytes the first 4,096 decide the answer.
-fn main() {
+fn main(rt: HostRuntime) {
     let mut out = printing::memory();
-    let mut buf = io::buffer();
-    let n = io::read_full(0, &mut buf);
-    if say_block(&mut out, &buf[..n]) {
-        printing::tell(b"refused\n");
+    let mut buf = printing::buffer();
+    let n = printing::read_full(rt.stdin(), &mut buf);
+    if say_block(rt, &mut out, &buf[..n]) {
+        printing::tell(rt, b"refused\n");
     }
 }

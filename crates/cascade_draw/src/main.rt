@@ -1,4 +1,7 @@
 // Draws the diagram and the cascade of the job and sheet on standard input.
-fn main() {
-    drawing::draw_input();
+
+#![tactic(auto)]
+
+fn main(rt: HostRuntime) {
+    drawing::draw_input(rt);
 }

@@ -1,4 +1,7 @@
 // Lists the cascade of the job and sheet on standard input.
-fn main() {
-    listing::list_input();
+
+#![tactic(auto)]
+
+fn main(rt: HostRuntime) {
+    listing::list_input(rt);
 }

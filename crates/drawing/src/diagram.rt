@@ -68,36 +68,52 @@ fn cut_above(records: &[u8], d: usize) -> bool
 }
 
 // " #3" for column 3 of a cut.
-fn say_column(out: &mut [u8], at: usize, cut: bool, column: usize) -> usize {
+fn say_column(rt: HostRuntime, out: &mut [u8], at: usize, cut: bool, column: usize) -> usize {
     if cut {
-        return say_with(out, at, b" #", column, b"");
+        return say_with(rt, out, at, b" #", column, b"");
     }
     at
 }
 
 // Below a cut columns stand from left to right.
-fn say_right_of(out: &mut [u8], at: usize, i: usize, cut: bool, column: usize) -> usize
+fn say_right_of(
+    rt: HostRuntime,
+    out: &mut [u8],
+    at: usize,
+    i: usize,
+    cut: bool,
+    column: usize,
+) -> usize
     requires { i < 10240 }
 {
     if cut & (0 < column) {
-        let said = say_with(out, at, b"    n", i + 1, b" -> n");
-        return say_with(out, said, b"", i + 2, b" [style=invis]\n");
+        let said = say_with(rt, out, at, b"    n", i + 1, b" -> n");
+        return say_with(rt, out, said, b"", i + 2, b" [style=invis]\n");
     }
     at
 }
 
 // The statement of node i: its variable, and its column where a cut lies directly above. The first node is number 2.
-fn say_node(out: &mut [u8], at: usize, i: usize, variable: u8, cut: bool, column: usize) -> usize
+fn say_node(
+    rt: HostRuntime,
+    out: &mut [u8],
+    at: usize,
+    i: usize,
+    variable: u8,
+    cut: bool,
+    column: usize,
+) -> usize
     requires { i < 10240 }
 {
-    let opened = say_with(out, at, b"    n", i + 2, b" [label=\"");
-    let named = say_name(out, opened, variable);
-    let numbered = say_column(out, named, cut, column);
-    let said = say(out, numbered, b"\"]\n");
-    say_right_of(out, said, i, cut, column)
+    let opened = say_with(rt, out, at, b"    n", i + 2, b" [label=\"");
+    let named = say_name(rt, out, opened, variable);
+    let numbered = say_column(rt, out, named, cut, column);
+    let said = say(rt, out, numbered, b"\"]\n");
+    say_right_of(rt, out, said, i, cut, column)
 }
 
 fn say_node_here(
+    rt: HostRuntime,
     out: &mut [u8],
     at: usize,
     here: usize,
@@ -111,11 +127,12 @@ fn say_node_here(
     if here == 0 {
         return at;
     }
-    say_node(out, at, i, variable, cut, column)
+    say_node(rt, out, at, i, variable, cut, column)
 }
 
 // The statements of the nodes at a height, in the order of their columns.
 fn say_nodes(
+    rt: HostRuntime,
     out: &mut [u8],
     at: usize,
     words: &[u16],
@@ -130,7 +147,7 @@ fn say_nodes(
     let mut i = 0;
     while i < last {
         let here = stands_at(words, i, h);
-        said = say_node_here(out, said, here, i, variable, cut, column);
+        said = say_node_here(rt, out, said, here, i, variable, cut, column);
         column += here;
         i += 1;
     }
@@ -138,32 +155,34 @@ fn say_nodes(
 }
 
 // The left margin: the height and its variable.
-fn say_margin(out: &mut [u8], at: usize, h: usize, variable: u8) -> usize {
+fn say_margin(rt: HostRuntime, out: &mut [u8], at: usize, h: usize, variable: u8) -> usize {
     let opened = say_with(
+        rt,
         out,
         at,
         b"    h",
         h,
         b" [shape=plaintext, fontcolor=gray40, label=\"height ",
     );
-    let numbered = say_with(out, opened, b"", h, b", ");
-    let named = say_name(out, numbered, variable);
-    say(out, named, b"\"]\n")
+    let numbered = say_with(rt, out, opened, b"", h, b", ");
+    let named = say_name(rt, out, numbered, variable);
+    say(rt, out, named, b"\"]\n")
 }
 
 // Keeps the margin of a height straight above that of the next; where a cut lies between them, the cut's own line does.
-fn say_below(out: &mut [u8], at: usize, cut: bool, h: usize) -> usize
+fn say_below(rt: HostRuntime, out: &mut [u8], at: usize, cut: bool, h: usize) -> usize
     requires { 1 ≤ h }
 {
     if cut {
         return at;
     }
-    let said = say_with(out, at, b"  h", h, b" -> h");
-    say_with(out, said, b"", h - 1, b" [style=invis, weight=1000]\n")
+    let said = say_with(rt, out, at, b"  h", h, b" -> h");
+    say_with(rt, out, said, b"", h - 1, b" [style=invis, weight=1000]\n")
 }
 
 // The rank of the height h that is d below the top.
 fn say_height(
+    rt: HostRuntime,
     out: &mut [u8],
     at: usize,
     words: &[u16],
@@ -177,15 +196,16 @@ fn say_height(
     let variable = variable_at(records, d);
     let above = cut_above(records, d);
     let below = cut_below(records, d);
-    let opened = say(out, at, b"  {\n    rank=same\n");
-    let margin = say_margin(out, opened, h, variable);
-    let nodes = say_nodes(out, margin, words, count, h, variable, above);
-    let closed = say(out, nodes, b"  }\n");
-    say_below(out, closed, below, h)
+    let opened = say(rt, out, at, b"  {\n    rank=same\n");
+    let margin = say_margin(rt, out, opened, h, variable);
+    let nodes = say_nodes(rt, out, margin, words, count, h, variable, above);
+    let closed = say(rt, out, nodes, b"  }\n");
+    say_below(rt, out, closed, below, h)
 }
 
 // The ranks of all heights, topmost first, and that of constant 1.
 pub fn say_heights(
+    rt: HostRuntime,
     out: &mut [u8],
     at: usize,
     words: &[u16],
@@ -196,10 +216,11 @@ pub fn say_heights(
     let mut said = at;
     let mut d = 0;
     while d < t {
-        said = say_height(out, said, words, count, records, d, t - d);
+        said = say_height(rt, out, said, words, count, records, d, t - d);
         d += 1;
     }
     say(
+        rt,
         out,
         said,
         b"  {\n    rank=same\n    h0 [shape=plaintext, fontcolor=gray40, label=\"height 0\"]\n    n1 [shape=box, label=\"1\"]\n  }\n",
@@ -207,48 +228,61 @@ pub fn say_heights(
 }
 
 // An edge; none to constant 0.
-fn say_edge(out: &mut [u8], at: usize, from: usize, to: u16, end: &[u8]) -> usize {
+fn say_edge(rt: HostRuntime, out: &mut [u8], at: usize, from: usize, to: u16, end: &[u8]) -> usize {
     if to == 0 {
         return at;
     }
-    let said = say_with(out, at, b"  n", from, b" -> n");
-    say_with(out, said, b"", wide16(to), end)
+    let said = say_with(rt, out, at, b"  n", from, b" -> n");
+    say_with(rt, out, said, b"", wide16(to), end)
 }
 
-fn say_children(out: &mut [u8], at: usize, words: &[u16], i: usize) -> usize
+fn say_children(rt: HostRuntime, out: &mut [u8], at: usize, words: &[u16], i: usize) -> usize
     requires { i < 10240 }
 {
     let node = node_at(words, i);
-    let said = say_edge(out, at, i + 2, node.low, b" [style=dashed]\n");
-    say_edge(out, said, i + 2, node.high, b"\n")
+    let said = say_edge(rt, out, at, i + 2, node.low, b" [style=dashed]\n");
+    say_edge(rt, out, said, i + 2, node.high, b"\n")
 }
 
 // The edges of all nodes: that for 0 dashed, that for 1 solid.
-pub fn say_edges(out: &mut [u8], at: usize, words: &[u16], count: usize) -> usize {
+pub fn say_edges(rt: HostRuntime, out: &mut [u8], at: usize, words: &[u16], count: usize) -> usize {
     let last = least(count, MOST_NODES);
     let mut said = at;
     let mut i = 0;
     while i < last {
-        said = say_children(out, said, words, i);
+        said = say_children(rt, out, said, words, i);
         i += 1;
     }
     said
 }
 
-fn say_number_here(out: &mut [u8], at: usize, here: usize, number: usize) -> usize {
+fn say_number_here(
+    rt: HostRuntime,
+    out: &mut [u8],
+    at: usize,
+    here: usize,
+    number: usize,
+) -> usize {
     if here == 0 {
         return at;
     }
-    say_with(out, at, b" n", number, b"")
+    say_with(rt, out, at, b" n", number, b"")
 }
 
 // The names of the nodes at a height, a space before each.
-pub fn say_numbers(out: &mut [u8], at: usize, words: &[u16], count: usize, h: usize) -> usize {
+pub fn say_numbers(
+    rt: HostRuntime,
+    out: &mut [u8],
+    at: usize,
+    words: &[u16],
+    count: usize,
+    h: usize,
+) -> usize {
     let last = least(count, MOST_NODES);
     let mut said = at;
     let mut i = 0;
     while i < last {
-        said = say_number_here(out, said, stands_at(words, i, h), i + 2);
+        said = say_number_here(rt, out, said, stands_at(words, i, h), i + 2);
         i += 1;
     }
     said

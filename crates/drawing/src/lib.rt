@@ -1,5 +1,8 @@
 // The drawing: what program `cascade_draw` prints of a job, its merged diagram and its cascade as a graph for Graphviz (DOT). Every number in it comes
 // from the compiler's answer, nodes, records, rows and widths.
+
+#![tactic(auto)]
+
 mod cells;
 mod diagram;
 mod names;
@@ -20,31 +23,36 @@ fn node_memory() -> [u16; NODE_WORDS]
 }
 
 // What holds for the whole picture, and how to read it.
-fn say_head(out: &mut [u8], at: usize) -> usize {
+fn say_head(rt: HostRuntime, out: &mut [u8], at: usize) -> usize {
     let opened = say(
+        rt,
         out,
         at,
         b"digraph cascade {\n  graph [splines=line, outputorder=edgesfirst, nodesep=0.3, ranksep=0.45, fontname=\"Helvetica\", fontsize=11]\n",
     );
     let line = say(
+        rt,
         out,
         opened,
         b"  label=\"Dashed edge: the variable is 0, solid: 1. Edges to constant 0 are left out. #c at a cut: column c.\\n",
     );
     let legend = say(
+        rt,
         out,
         line,
         b"What a cell reads and gives is written highest bit first.\"\n",
     );
     let nodes = say(
+        rt,
         out,
         legend,
         b"  node [shape=ellipse, style=filled, fillcolor=white, width=0.5, height=0.4, margin=\"0.02,0.02\", fontname=\"Helvetica\", fontsize=12]\n",
     );
-    say(out, nodes, b"  edge [arrowhead=none]\n")
+    say(rt, out, nodes, b"  edge [arrowhead=none]\n")
 }
 
 fn draw_all(
+    rt: HostRuntime,
     out: &mut [u8],
     words: &[u16],
     count: usize,
@@ -53,30 +61,30 @@ fn draw_all(
     widths: &Widths,
     cells: usize,
 ) {
-    let head = say_head(out, 0);
-    let heights = say_heights(out, head, words, count, records);
-    let edges = say_edges(out, heights, words, count);
-    let said = say_cells(out, edges, words, count, records, rows, widths, cells);
-    let ended = say(out, said, b"}\n");
-    printing::end(out, ended);
+    let head = say_head(rt, out, 0);
+    let heights = say_heights(rt, out, head, words, count, records);
+    let edges = say_edges(rt, out, heights, words, count);
+    let said = say_cells(rt, out, edges, words, count, records, rows, widths, cells);
+    let ended = say(rt, out, said, b"}\n");
+    printing::end(rt, out, ended);
 }
 
-fn refuse(refusal: u8) {
+fn refuse(rt: HostRuntime, refusal: u8) {
     let mut out = printing::memory();
-    let said = printing::say_refused(&mut out, 0, refusal);
-    if printing::end(&out, said) {
-        printing::tell(b"refused\n");
+    let said = printing::say_refused(rt, &mut out, 0, refusal);
+    if printing::end(rt, &out, said) {
+        printing::tell(rt, b"refused\n");
     }
 }
 
 // Prints the picture of the job and sheet of the input, or "refused N".
-pub fn draw(input: &[u8]) {
+pub fn draw(rt: HostRuntime, input: &[u8]) {
     let mut words = node_memory();
     let mut records = listing::record_memory();
     let mut rows = listing::row_memory();
     let compiled = listing::nodes::compile_nodes(input, &mut words, &mut records, &mut rows);
     if compiled.refusal != 0 {
-        refuse(compiled.refusal);
+        refuse(rt, compiled.refusal);
         return;
     }
     let t = wide(byte_at(input, 0)) + wide(byte_at(input, 1));
@@ -84,6 +92,7 @@ pub fn draw(input: &[u8]) {
     let widths = compiled.widths;
     let mut out = printing::memory();
     draw_all(
+        rt,
         &mut out,
         &words,
         wide16(compiled.nodes),
@@ -95,8 +104,8 @@ pub fn draw(input: &[u8]) {
 }
 
 // The same of standard input. Of more than 4,096 bytes the first 4,096 decide the answer.
-pub fn draw_input() {
-    let mut buf = io::buffer();
-    let n = io::read_full(0, &mut buf);
-    draw(&buf[..n]);
+pub fn draw_input(rt: HostRuntime) {
+    let mut buf = printing::buffer();
+    let n = printing::read_full(rt.stdin(), &mut buf);
+    draw(rt, &buf[..n]);
 }

@@ -1,4 +1,7 @@
 // Lists the jobs on standard input, one after another, each headed by its number of bytes (two, the low byte first).
-fn main() {
-    listing::list_jobs();
+
+#![tactic(auto)]
+
+fn main(rt: HostRuntime) {
+    listing::list_jobs(rt);
 }

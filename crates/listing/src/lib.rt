@@ -1,4 +1,7 @@
 // The listing: a job out of input bytes, and what program `cascade_list` prints of it. Also the job's cascade evaluated.
+
+#![tactic(auto)]
+
 mod block;
 pub mod nodes;
 
@@ -18,7 +21,7 @@ use sheet_spec::{MOST_OUTPUTS, MOST_VARIABLES};
 use stored_spec::{MOST_RECORD_BYTES, MOST_ROW_BYTES};
 
 // Where printing stands, and whether a job was refused.
-#[derive(Drop)]
+#[derive(Clone, Copy)]
 pub struct Listed {
     pub at: usize,
     pub refused: bool,
@@ -80,108 +83,136 @@ pub fn evaluate_input(input: &[u8], known: u16, word: u16) -> Evaluation
 }
 
 // A space, then the number.
-fn say_next(out: &mut [u8], at: usize, x: usize) -> usize {
-    let spaced = say(out, at, b" ");
-    say_number(out, spaced, x)
+fn say_next(rt: HostRuntime, out: &mut [u8], at: usize, x: usize) -> usize {
+    let spaced = say(rt, out, at, b" ");
+    say_number(rt, out, spaced, x)
 }
 
 // "height width rails".
-fn say_height(out: &mut [u8], at: usize, h: usize, width: u16) -> usize {
-    let height = say_number(out, at, h);
-    let widened = say_next(out, height, wide16(width));
-    let railed = say_next(out, widened, wide(cutting::rails(width)));
-    say(out, railed, b"\n")
+fn say_height(rt: HostRuntime, out: &mut [u8], at: usize, h: usize, width: u16) -> usize {
+    let height = say_number(rt, out, at, h);
+    let widened = say_next(rt, out, height, wide16(width));
+    let railed = say_next(rt, out, widened, wide(cutting::rails(width)));
+    say(rt, out, railed, b"\n")
 }
 
 // Per height its line, from t - 1 down to 0.
-fn say_heights(out: &mut [u8], at: usize, t: usize, widths: &Widths) -> usize {
+fn say_heights(rt: HostRuntime, out: &mut [u8], at: usize, t: usize, widths: &Widths) -> usize {
     let mut said = at;
     let mut h = least(t, MOST_VARIABLES);
     while h > 0 {
         h -= 1;
-        said = say_height(out, said, h, widths[h]);
+        said = say_height(rt, out, said, h, widths[h]);
     }
     said
 }
 
 // The values of the rows from place from up to place end, two bytes each.
-fn say_rows(out: &mut [u8], at: usize, rows: &[u8], from: usize, end: usize) -> usize {
+fn say_rows(
+    rt: HostRuntime,
+    out: &mut [u8],
+    at: usize,
+    rows: &[u8],
+    from: usize,
+    end: usize,
+) -> usize {
     let last = least(end, rows.len() / 2);
     let mut said = at;
     let mut i = from;
     while i < last {
-        said = say_next(out, said, wide16(pair(rows[i * 2], rows[i * 2 + 1])));
+        said = say_next(rt, out, said, wide16(pair(rows[i * 2], rows[i * 2 + 1])));
         i += 1;
     }
     said
 }
 
 // A cell's top height, bottom height, rows.
-fn say_cell(out: &mut [u8], at: usize, k: usize, records: &[u8], rows: &[u8]) -> usize {
+fn say_cell(
+    rt: HostRuntime,
+    out: &mut [u8],
+    at: usize,
+    k: usize,
+    records: &[u8],
+    rows: &[u8],
+) -> usize {
     let place = stored::cell_place(records, k);
-    let named = say(out, at, b"cell");
-    let top = say_next(out, named, place.top);
-    let bottom = say_next(out, top, place.bottom);
-    let rowed = say_rows(out, bottom, rows, place.at, place.end);
-    say(out, rowed, b"\n")
+    let named = say(rt, out, at, b"cell");
+    let top = say_next(rt, out, named, place.top);
+    let bottom = say_next(rt, out, top, place.bottom);
+    let rowed = say_rows(rt, out, bottom, rows, place.at, place.end);
+    say(rt, out, rowed, b"\n")
 }
 
-fn say_cells(out: &mut [u8], at: usize, cells: usize, records: &[u8], rows: &[u8]) -> usize {
+fn say_cells(
+    rt: HostRuntime,
+    out: &mut [u8],
+    at: usize,
+    cells: usize,
+    records: &[u8],
+    rows: &[u8],
+) -> usize {
     let mut said = at;
     let mut k = 0;
     while k < cells {
-        said = say_cell(out, said, k, records, rows);
+        said = say_cell(rt, out, said, k, records, rows);
         k += 1;
     }
     said
 }
 
 // The listing of the job and sheet of the input, or "refused N".
-pub fn list(out: &mut [u8], at: usize, input: &[u8]) -> Listed {
+pub fn list(rt: HostRuntime, out: &mut [u8], at: usize, input: &[u8]) -> Listed {
     let mut records = record_memory();
     let mut rows = row_memory();
     let compiled = compile_input(input, &mut records, &mut rows);
     if compiled.refusal != 0 {
         return Listed {
-            at: say_refused(out, at, compiled.refusal),
+            at: say_refused(rt, out, at, compiled.refusal),
             refused: true,
         };
     }
     let t = number(input, 0) + number(input, 1);
     let widths = compiled.widths;
-    let heights = say_heights(out, at, t, &widths);
+    let heights = say_heights(rt, out, at, t, &widths);
     let used = least(t * 4, MOST_RECORD_BYTES);
     Listed {
-        at: say_cells(out, heights, wide(compiled.cells), &records[..used], &rows),
+        at: say_cells(
+            rt,
+            out,
+            heights,
+            wide(compiled.cells),
+            &records[..used],
+            &rows,
+        ),
         refused: false,
     }
 }
 
 // Writes what is left, and says where a job was refused.
-fn end(out: &[u8], listed: Listed) {
-    if printing::end(out, listed.at) & listed.refused {
-        printing::tell(b"refused\n");
+fn end(rt: HostRuntime, out: &[u8], listed: Listed) {
+    if printing::end(rt, out, listed.at) & listed.refused {
+        printing::tell(rt, b"refused\n");
     }
 }
 
 // Prints the listing of standard input. Of more than 4,096 bytes the first 4,096 decide the answer.
-pub fn list_input() {
+pub fn list_input(rt: HostRuntime) {
     let mut out = printing::memory();
-    let mut buf = io::buffer();
-    let n = io::read_full(0, &mut buf);
-    let listed = list(&mut out, 0, &buf[..n]);
-    end(&out, listed);
+    let mut buf = printing::buffer();
+    let n = printing::read_full(rt.stdin(), &mut buf);
+    let listed = list(rt, &mut out, 0, &buf[..n]);
+    end(rt, &out, listed);
 }
 
 // Lists each job of the bytes, one after another, which is headed by its number of bytes (two, the low byte first).
-fn list_each(out: &mut [u8], bytes: &[u8]) -> Listed {
+fn list_each(rt: HostRuntime, out: &mut [u8], bytes: &[u8]) -> Listed {
     let mut said = 0;
     let mut refused = false;
     let mut at = 0;
     while at + 2 <= bytes.len() {
         let size = wide(bytes[at]) + wide(bytes[at + 1]) * 256;
         let to = least(at + 2 + size, bytes.len());
-        let listed = list(out, said, &bytes[at + 2..to]);
+        let listed = list(rt, out, said, &bytes[at + 2..to]);
         said = listed.at;
         refused = refused | listed.refused;
         at = to;
@@ -190,10 +221,10 @@ fn list_each(out: &mut [u8], bytes: &[u8]) -> Listed {
 }
 
 // The same of the first 65,536 bytes of standard input.
-pub fn list_jobs() {
+pub fn list_jobs(rt: HostRuntime) {
     let mut out = printing::memory();
-    let mut buf = io::large_buffer();
-    let n = io::read_full(0, &mut buf);
-    let listed = list_each(&mut out, &buf[..n]);
-    end(&out, listed);
+    let mut buf = printing::large_buffer();
+    let n = printing::read_full(rt.stdin(), &mut buf);
+    let listed = list_each(rt, &mut out, &buf[..n]);
+    end(rt, &out, listed);
 }

@@ -2,9 +2,10 @@
 use crate::{say, say_number};
 
 // The call that was meant, as `call_text::wanted` numbers them.
-fn say_wanted(out: &mut [u8], at: usize, wanted: u8) -> usize {
+fn say_wanted(rt: HostRuntime, out: &mut [u8], at: usize, wanted: u8) -> usize {
     if wanted == 1 {
         return say(
+            rt,
             out,
             at,
             b"bank S, where S is one to five digits and at most 65535\n",
@@ -12,6 +13,7 @@ fn say_wanted(out: &mut [u8], at: usize, wanted: u8) -> usize {
     }
     if wanted == 2 {
         return say(
+            rt,
             out,
             at,
             b"admit RECORDS ROWS or admit RECORDS ROWS PERIOD PHASE, where RECORDS and ROWS are in base 16, two digits a byte and at most 65535 bytes, or - for none, and PERIOD and PHASE one to three digits and at most 255\n",
@@ -19,37 +21,45 @@ fn say_wanted(out: &mut [u8], at: usize, wanted: u8) -> usize {
     }
     if wanted == 3 {
         return say(
+            rt,
             out,
             at,
             b"latch and eight words of four digits in base 16\n",
         );
     }
     if wanted == 4 {
-        return say(out, at, b"step and nothing after it\n");
+        return say(rt, out, at, b"step and nothing after it\n");
     }
-    say(out, at, b"bank, admit, latch or step\n")
+    say(rt, out, at, b"bank, admit, latch or step\n")
 }
 
 // The line's number, and that it can't be read.
-fn say_number_bad(out: &mut [u8], at: usize, number: usize) -> usize {
-    let line = say(out, at, b"line ");
-    let numbered = say_number(out, line, number);
-    say(out, numbered, b": not understood, expected ")
+fn say_number_bad(rt: HostRuntime, out: &mut [u8], at: usize, number: usize) -> usize {
+    let line = say(rt, out, at, b"line ");
+    let numbered = say_number(rt, out, line, number);
+    say(rt, out, numbered, b": not understood, expected ")
 }
 
-pub fn say_bad_line(out: &mut [u8], at: usize, number: usize, wanted: u8) -> usize {
-    let said = say_number_bad(out, at, number);
-    say_wanted(out, said, wanted)
+pub fn say_bad_line(
+    rt: HostRuntime,
+    out: &mut [u8],
+    at: usize,
+    number: usize,
+    wanted: u8,
+) -> usize {
+    let said = say_number_bad(rt, out, at, number);
+    say_wanted(rt, out, said, wanted)
 }
 
 // The first line should have said a memory of at most so many bytes.
-pub fn say_bad_memory(out: &mut [u8], at: usize, most: usize) -> usize {
-    let said = say_number_bad(out, at, 1);
+pub fn say_bad_memory(rt: HostRuntime, out: &mut [u8], at: usize, most: usize) -> usize {
+    let said = say_number_bad(rt, out, at, 1);
     let wanted = say(
+        rt,
         out,
         said,
         b"memory N, where N is one to five digits and at most ",
     );
-    let limit = say_number(out, wanted, most);
-    say(out, limit, b"\n")
+    let limit = say_number(rt, out, wanted, most);
+    say(rt, out, limit, b"\n")
 }
