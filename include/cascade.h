@@ -2,7 +2,7 @@
  * scanned, one read a call.
  *
  * Link with libkawsethu.a of a release (pkg-config kawsethu), or with target/staticlib/libpanel.a, which is the same archive
- * (made by `rt staticlib panel`).
+ * (made by `tools/archive`).
  *
  * Every function takes any numbers and any bytes, ends, and reads and writes nothing but what it is lent and its stack. On a
  * refusal it leaves all lent memory as it was.

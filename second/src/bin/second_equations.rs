@@ -158,7 +158,7 @@ fn list_equations(limit: u8, row_memory: usize, calls: &[Call]) -> [String; 2] {
             list(held, |e| e)
         ),
         format!(
-            "bookTrace {limit} {row_memory} newBook {calls}\n    ≡ {}",
+            "book_trace {limit} {row_memory} new_book {calls}\n    ≡ {}",
             list(booked, |e| e)
         ),
     ]
@@ -232,27 +232,27 @@ fn state_equation(seed: u64, index: u64) -> String {
     )
 }
 
-const HEAD: &str = "use mathlib.Core.Path.{_≡_, refl}
+const HEAD: &str = "use mathlib.Core.Path.{◌≡◌, refl}
 use mathlib.Core.Bool.{Bool, true, false}
-use mathlib.Core.List.{List, [], _∷_}
+use mathlib.Core.List.{List, [], ◌∷◌}
 use Prim.Native.Nat.{ℕ}
 use lib.ListN.{replicate}
-use Rattle·sheet_spec.specs.Opened.{sheetOpened}
-use Rattle·reduction_spec.specs.Opened.{reductionOpened}
-use Rattle·reduction_spec.specs.declared.Node.{Node}
-use Rattle·cutting_spec.specs.Opened.{cuttingOpened}
-use Rattle·bank_spec.specs.Opened.{bankOpened}
+use Rattle.sheet_spec.specs.Opened.{sheet_opened}
+use Rattle.reduction_spec.specs.Opened.{reduction_opened}
+use Rattle.reduction_spec.specs.declared.Node.{Node}
+use Rattle.cutting_spec.specs.Opened.{cutting_opened}
+use Rattle.bank_spec.specs.Opened.{bank_opened}
 ";
 const COMPILER: &str =
-    "use Rattle·cutting_spec.specs.Compile.{compile, Compiled, Totals, accepted, refused}
+    "use Rattle.cutting_spec.specs.Compile.{compile, Compiled, Totals, accepted, refused}
 
 abbrev node : ℕ → ℕ → ℕ → Node
 node h l r = record { height = h; low = l; high = r }
 ";
-const BANK: &str = "use Rattle·bank_spec.specs.State.{fresh, formed}
-use Rattle·bank_spec.specs.Calls.{accepted, refused, idle, went, handed}
-use Rattle·bank_spec.specs.Book.{newBook}
-use Rattle·bank_spec.specs.CallLists.{admission, latching, stepping, Entry, trace, bookTrace}
+const BANK: &str = "use Rattle.bank_spec.specs.State.{fresh, formed}
+use Rattle.bank_spec.specs.Calls.{accepted, refused, idle, went, handed}
+use Rattle.bank_spec.specs.Book.{new_book}
+use Rattle.bank_spec.specs.CallLists.{admission, latching, stepping, Entry, trace, book_trace}
 ";
 
 /// Writes the equations as proof files, and their names for the crate's list of modules.
@@ -269,7 +269,7 @@ fn write(
         for (i, equation) in part.iter().enumerate() {
             let _ = write!(
                 text,
-                "\npub e{i} : {equation}\nunfolding sheetOpened reductionOpened cuttingOpened bankOpened{opened}\ne{i} = refl\n"
+                "\npub e{i} : {equation}\nunfolding sheet_opened reduction_opened cutting_opened bank_opened{opened}\ne{i} = refl\n"
             );
         }
         fs::write(folder.join(format!("proofs/{module}.antt")), text)?;

@@ -9,13 +9,13 @@ use second::moves::Way;
 use second::stored::cells;
 use std::collections::BTreeMap;
 
-pub const HEAD: &str = "use Rattle·stored_spec.specs.RowBytes.{rowsOf}
-use Rattle·stored_spec.specs.ReadWrite.{Written}
-use Rattle·row_forms_spec.specs.Moves.{overEight, move, widen, narrow}
+pub const HEAD: &str = "use Rattle.stored_spec.specs.RowBytes.{rows_of}
+use Rattle.stored_spec.specs.ReadWrite.{Written}
+use Rattle.row_forms_spec.specs.Moves.{over_eight, move, widen, narrow}
 ";
 
 /// What a proof unfolds beside the definitions of the other layers.
-pub const OPENED: &str = " rowsOf overEight move widen narrow";
+pub const OPENED: &str = " rows_of over_eight move widen narrow";
 
 /// The answers: 0, 10, 11 and 12 each way, and 15 going back.
 const KINDS: usize = 9;
