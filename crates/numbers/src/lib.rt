@@ -1,35 +1,8 @@
-// Small numbers that every layer needs: widened, compared, read from bytes. Total, so that any crate may call them.
+// Small numbers read from bytes. Total, so that any crate may call them.
 
 #![tactic(auto)]
 
-ghost use Rattle.std.specs.Prelude.{◌≡◌, ◌+◌, ◌*◌, ◌<◌, ◌≤◌, min, get_or};
-
-pub fn wide(x: u8) -> usize
-    ensures { (result ≡ x) × (result < 256) }
-{
-    x as usize
-}
-
-pub fn wide16(x: u16) -> usize
-    ensures { (result ≡ x) × (result < 65536) }
-{
-    x as usize
-}
-
-pub fn long16(x: u16) -> u32
-    ensures { result ≡ x }
-{
-    x as u32
-}
-
-pub fn least(a: usize, b: usize) -> usize
-    ensures { (result ≡ min a b) × (result ≤ a) × (result ≤ b) }
-{
-    if a < b {
-        return a;
-    }
-    b
-}
+ghost use Rattle.std.specs.Prelude.{◌≡◌, ◌+◌, ◌*◌, get_or};
 
 // The number of two bytes.
 pub fn pair(low: u8, high: u8) -> u16

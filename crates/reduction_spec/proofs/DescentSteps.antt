@@ -1,6 +1,7 @@
 -- One step of a descent over the node words.
 -- Assumes nothing.
 use mathlib.Core.Path.{◌≡◌, refl, sym, ◌∙◌, ap}
+use mathlib.Core.Logic.{◌⊎◌, inl, inr}
 use mathlib.Core.Bool.{Bool, true, false, cond}
 use mathlib.Core.List.{List}
 use Prim.Native.Nat.{ℕ, zero, suc, ◌+◌, ◌-◌, ◌*◌, ◌^◌, ◌<◌, ◌≤◌}
@@ -41,6 +42,11 @@ module _ (ws order : List ℕ) (bottom : ℕ) where
   unfolding descend
   descend-stop zero v x count o l = refl
   descend-stop (suc k) v x count o l = sym (cond_yes (ltb v 2) (reached v o) _ (lt-ltb v 2 l))
+
+  -- at the bottom cut, or at a constant
+  pub descend-ended : (k v x count o : ℕ) → (k ≡ 0) ⊎ ((k ≡ 0 → ⊥) × (v < 2)) → reached v o ≡ descend ws order bottom k v x count o
+  descend-ended k v x count o (inl e) = descend-bottom k v x count o e
+  descend-ended k v x count o (inr e) = descend-stop k v x count o e.1
 
   module _ (k v x count o : ℕ) (n : k ≡ 0 → ⊥) (p : 2 ≤ v) where
     -- the variable at height bottom + k is an input

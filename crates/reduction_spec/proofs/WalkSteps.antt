@@ -1,6 +1,7 @@
 -- One step of a walk, and of the comparison of two nodes.
 -- Assumes nothing.
 use mathlib.Core.Path.{◌≡◌, refl, sym, ◌∙◌, ap, ap₂}
+use mathlib.Core.Logic.{◌⊎◌, inl, inr}
 use mathlib.Core.Bool.{Bool, true, false, not, ◌&&◌, ◌||◌, or-true}
 use mathlib.Core.List.{List, [], ◌∷◌}
 use Prim.Native.Nat.{ℕ, zero, suc, ◌-◌, ◌<◌, ◌≤◌}
@@ -56,20 +57,26 @@ module _ (ws : List ℕ) where
   same_equal h v u e = sym (same_self h u) ∙ ap (λ (x : ℕ). same_nodes ws h x u) (sym e)
 
   -- the column of a constant is that of no other node
-  pub same-bottom : (h v u : ℕ) → h ≡ 0 → (v ≡ u → ⊥) → false ≡ same_nodes ws h v u
+  same_constant : (h v u : ℕ) → (ltb v 2 || ltb u 2) ≡ true → eqb v u ≡ same_nodes ws h v u
   unfolding same_nodes
-  same-bottom h v u e n = rw e (sym (ne_eqb v u n))
+  same_constant zero v u e = refl
+  same_constant (suc h) v u e = sym (cond_yes (ltb v 2 || ltb u 2) (eqb v u) _ e)
 
-  constant : (h v u : ℕ) → (ltb v 2 || ltb u 2) ≡ true → (v ≡ u → ⊥) → false ≡ same_nodes ws h v u
+  same-bottom : (h v u : ℕ) → h ≡ 0 → eqb v u ≡ same_nodes ws h v u
   unfolding same_nodes
-  constant zero v u e n = sym (ne_eqb v u n)
-  constant (suc h) v u e n = sym (cond_yes (ltb v 2 || ltb u 2) (eqb v u) _ e ∙ ne_eqb v u n)
+  same-bottom h v u e = rw e refl
+
+  -- at height 0, or where one of the nodes is constant
+  pub same_ended : (h v u : ℕ) → (h ≡ 0) ⊎ (((h ≡ 0 → ⊥) × (v < 2)) ⊎ ((h ≡ 0 → ⊥) × (2 ≤ v) × (u < 2))) → eqb v u ≡ same_nodes ws h v u
+  same_ended h v u (inl e) = same-bottom h v u e
+  same_ended h v u (inr (inl e)) = same_constant h v u (ap (λ (b : Bool). b || ltb u 2) (lt-ltb v 2 e.1))
+  same_ended h v u (inr (inr e)) = same_constant h v u (ap (λ (b : Bool). ltb v 2 || b) (lt-ltb u 2 e.2) ∙ or-true (ltb v 2))
 
   pub same_left : (h v u : ℕ) → v < 2 → (v ≡ u → ⊥) → false ≡ same_nodes ws h v u
-  same_left h v u l = constant h v u (ap (λ (b : Bool). b || ltb u 2) (lt-ltb v 2 l))
+  same_left h v u l n = sym (ne_eqb v u n) ∙ same_constant h v u (ap (λ (b : Bool). b || ltb u 2) (lt-ltb v 2 l))
 
   pub same_right : (h v u : ℕ) → u < 2 → (v ≡ u → ⊥) → false ≡ same_nodes ws h v u
-  same_right h v u l = constant h v u (ap (λ (b : Bool). ltb v 2 || b) (lt-ltb u 2 l) ∙ or-true (ltb v 2))
+  same_right h v u l n = sym (ne_eqb v u n) ∙ same_constant h v u (ap (λ (b : Bool). ltb v 2 || b) (lt-ltb u 2 l) ∙ or-true (ltb v 2))
 
   neither : (v u : ℕ) → 2 ≤ v → 2 ≤ u → (ltb v 2 || ltb u 2) ≡ false
   neither v u p q = ap₂ ◌||◌ (le-ltb v 2 p) (le-ltb u 2 q)
@@ -96,20 +103,19 @@ module _ (ws : List ℕ) where
         er' ∙ ap₂ (same_nodes ws (h - 1)) ey' ez'
         ∙ sym (same_children ∙ ap (λ (b : Bool). b && same_nodes ws (h - 1) (high_of ws v) (high_of ws u)) low)
 
-  pub compatible-bottom : (h v u : ℕ) (r : Bool) → h ≡ 0 → r ≡ neither_zero v u → r ≡ compatible_nodes ws h v u
-  unfolding compatible_nodes
-  compatible-bottom h v u r e er = rw e er
-
   open_constant : (h v u : ℕ) → (ltb v 2 || ltb u 2) ≡ true → neither_zero v u ≡ compatible_nodes ws h v u
   unfolding compatible_nodes
   open_constant zero v u e = refl
   open_constant (suc h) v u e = sym (cond_yes (ltb v 2 || ltb u 2) (neither_zero v u) _ e)
 
-  pub compatible_left : (h v u : ℕ) (r : Bool) → v < 2 → r ≡ neither_zero v u → r ≡ compatible_nodes ws h v u
-  compatible_left h v u r l er = er ∙ open_constant h v u (ap (λ (b : Bool). b || ltb u 2) (lt-ltb v 2 l))
+  compatible-bottom : (h v u : ℕ) → h ≡ 0 → neither_zero v u ≡ compatible_nodes ws h v u
+  unfolding compatible_nodes
+  compatible-bottom h v u e = rw e refl
 
-  pub compatible_right : (h v u : ℕ) (r : Bool) → u < 2 → r ≡ neither_zero v u → r ≡ compatible_nodes ws h v u
-  compatible_right h v u r l er = er ∙ open_constant h v u (ap (λ (b : Bool). ltb v 2 || b) (lt-ltb u 2 l) ∙ or-true (ltb v 2))
+  pub compatible_ended : (h v u : ℕ) → (h ≡ 0) ⊎ (((h ≡ 0 → ⊥) × (v < 2)) ⊎ ((h ≡ 0 → ⊥) × (2 ≤ v) × (u < 2))) → neither_zero v u ≡ compatible_nodes ws h v u
+  compatible_ended h v u (inl e) = compatible-bottom h v u e
+  compatible_ended h v u (inr (inl e)) = open_constant h v u (ap (λ (b : Bool). b || ltb u 2) (lt-ltb v 2 e.1))
+  compatible_ended h v u (inr (inr e)) = open_constant h v u (ap (λ (b : Bool). ltb v 2 || b) (lt-ltb u 2 e.2) ∙ or-true (ltb v 2))
 
   pub compatible-step : (h v u : ℕ) → 2 ≤ v → 2 ≤ u
       → compatible_nodes ws (suc h) v u

@@ -6,6 +6,7 @@ pub mod Compatible
 pub mod Cover
 pub mod Merge
 pub mod Diagram
+pub mod Given
 pub mod Reduction
 pub mod Walk
 pub mod Compare

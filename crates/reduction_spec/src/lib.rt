@@ -2,6 +2,10 @@
 
 #![tactic(auto)]
 
+ghost use Rattle.std.specs.Prelude.{◌≡◌};
+ghost use Rattle.reduction_spec.specs.Given.{reduction_given};
+
+use refusals::Refusal;
 use sheet_spec::MOST_VARIABLES;
 
 // The limits of the layer: columns at a height, nodes of a diagram, words of its node table, and a flag for each pair of columns.
@@ -33,6 +37,20 @@ pub struct Node {
 pub struct Reduction {
     pub refusal: u8,
     pub nodes: u16,
+}
+
+impl From<Result<u16, Refusal>> for Reduction {
+    ghost from_gives = { λ made r. r ≡ reduction_given made };
+
+    fn from(made: Result<u16, Refusal>) -> Reduction {
+        match made {
+            Ok(nodes) => Reduction { refusal: 0, nodes },
+            Err(refusal) => Reduction {
+                refusal: u8::from(refusal),
+                nodes: 0,
+            },
+        }
+    }
 }
 
 // The end of a walk from one cut to the next: the node reached and the outputs met, topmost most significant.

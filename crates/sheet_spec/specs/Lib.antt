@@ -2,6 +2,7 @@
 pub mod Limits
 pub mod Records
 pub mod Job
+pub mod Given
 pub mod Values
 pub mod Refusals
 pub mod Accepted

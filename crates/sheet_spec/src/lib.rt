@@ -20,3 +20,13 @@ pub const STOP: u8 = 1;
 pub const TABLE_BYTES: usize = MOST_OUTPUTS * 4096;
 
 pub type Table = [u8; TABLE_BYTES];
+
+// A job: its inputs, outputs and cell limits, and the order of its variables, top first.
+#[derive(Clone, Copy)]
+pub struct Job<'a> {
+    pub n: usize,
+    pub m: usize,
+    pub k: usize,
+    pub l: usize,
+    pub order: &'a [u8],
+}

@@ -79,24 +79,3 @@ fit_more a b R h e =
     let c = size_of (cell_at R k) in
     let (i, o) = and_split (leb c.inputs 12) (leb c.outputs (8 * a)) (every_at (cell_formed_as a R) (cell_count R) e k l) in
     and_join i (le-leb c.outputs (8 * b) (omega (arith, leb-true c.outputs (8 * a) o))))
-
--- five tests, of which the fourth is made first
-module _ (a b c d e : Bool) where
-  pub fourth_holds : d ≡ true → ((a && (b && c)) && e) ≡ (a && b && c && d && e)
-  fourth_holds p = rw p (by a b)
-    where
-      by : (a b : Bool) → ((a && (b && c)) && e) ≡ (a && b && c && true && e)
-      by true true = of c
-        where
-          of : (c : Bool) → (c && e) ≡ (c && true && e)
-          of true = refl
-          of false = refl
-      by true false = refl
-      by false b = refl
-
-  pub fourth_fails : d ≡ false → false ≡ (a && b && c && d && e)
-  fourth_fails p = rw p (of (a && b && c))
-    where
-      of : (t : Bool) → false ≡ (t && false && e)
-      of true = refl
-      of false = refl

@@ -1,16 +1,12 @@
 -- Reading and writing stored cascades (document 01, "Who can cause a refusal").
 -- Assumes nothing.
-use Rattle.std.specs.Prelude.{ℕ, Bool, false, cond, not, List, [], ◌∷◌, eqb, ltb, length}
+use Rattle.std.specs.Prelude.{ℕ, false, cond, not, List, [], ◌∷◌, eqb, ltb, length}
 use Rattle.laws.specs.Lists.{tab, written}
 use Rattle.laws.specs.Bits.{flag}
+pub use Rattle.stored_spec.specs.declared.Record.{Record}
 use Rattle.stored_spec.specs.StoredForm.{record_count, variable, cut_byte, rail_byte, well_formed}
 
 -- a cascade as a structure: its records, top first, and its rows
-pub record Record : Type 0 where
-  pub variable : ℕ
-  pub cut : Bool
-  pub rails : ℕ
-
 pub record Cascade : Type 0 where
   pub records : List Record
   pub rows : List ℕ
@@ -54,6 +50,6 @@ write_bytes R bytes records rows =
 unfoldable pub write : Cascade → List ℕ → List ℕ → Written
 write c records rows = write_bytes (record_bytes c.records) c.rows records rows
 
--- The code's structure: the number of records, and three arrays of 20 with their parts. Past the records nothing has a meaning
+-- past the records nothing has a meaning
 abbrev pub no_record : Record
 no_record = record { variable = 0; cut = false; rails = 0 }

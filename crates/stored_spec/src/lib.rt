@@ -54,3 +54,11 @@ impl Cell {
         0
     }
 }
+
+// A record of a stored cascade: its variable, whether a cut lies directly below, and the rails there.
+#[derive(Clone, Copy)]
+pub struct Record {
+    pub variable: u8,
+    pub cut: bool,
+    pub rails: u8,
+}

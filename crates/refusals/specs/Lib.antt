@@ -1,0 +1,2 @@
+-- What the refusals' contracts cite.
+pub mod Numbers
