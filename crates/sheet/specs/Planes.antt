@@ -1,7 +1,8 @@
 -- The table as the code makes it: a plane holds for each place x the outputs that the records matching it force, as bits, the stop records over the ordinary ones. That the
 -- table made of two planes is the sheet's is proved.
 -- Assumes nothing.
-use Rattle.std.specs.Prelude.{◌≡◌, ℕ, zero, suc, ◌-◌, ◌*◌, ◌%◌, ◌^◌, ◌<◌, Bool, cond, ◌&&◌, List, eqb, ltb, length, get_or, replicate}
+use Rattle.std.specs.Prelude.{◌≡◌, ℕ, zero, suc, ◌-◌, ◌*◌, ◌%◌, ◌^◌, ◌<◌, Bool, cond, ◌&&◌, List, eqb, ltb, leb, length, get_or, replicate}
+use Rattle.std.specs.Bool.{beq}
 use Rattle.std.proofs.lemmas.List.Edits.{sets}
 use Rattle.laws.specs.Tests.{any}
 use Rattle.laws.specs.Lists.{puts, rect}
@@ -35,6 +36,10 @@ high_added ks vs fs x r = added (get_or ks r 0) (get_or vs r 0) (high_force (get
 unfoldable pub low_added : List ℕ → List ℕ → List ℕ → ℕ → ℕ → ℕ
 low_added ks vs fs i r = added (get_or ks r 0 % 256) (get_or vs r 0 % 256) (low_force (get_or ks r 0) (get_or vs r 0) (get_or fs r 0)) i
 
+-- what record r adds at place x if it tests upper bits, or if it tests none
+unfoldable pub some_added : Bool → List ℕ → List ℕ → List ℕ → ℕ → ℕ → ℕ
+some_added upper ks vs fs x r = cond (beq (leb 256 (get_or ks r 0)) upper) (added (get_or ks r 0) (get_or vs r 0) (get_or fs r 0) x) 0
+
 -- the number of the word w, of which the lowest k inputs of the list are read, over what was there. (A word has 16 bits.)
 unfoldable pub number_to : ℕ → List ℕ → ℕ → ℕ → ℕ
 number_to old is zero w = old
@@ -43,6 +48,10 @@ number_to old is (suc k) w = bit_or (number_to old is k w) (bit w (get_or is k 0
 -- the value of output o where the outputs z are forced to 0 and the outputs y to 1
 unfoldable pub line_value : ℕ → ℕ → ℕ → ℕ
 line_value z y o = (1 - bit z o) * (2 - bit y o)
+
+-- the outputs at heights h to 1 of an order of t variables, or the inputs, lowest first
+abbrev pub listed : Bool → ℕ → List ℕ → ℕ → List ℕ
+listed outputs t order h = cond outputs (outputs_to t order h) (inputs_to t order h)
 
 -- The steps of the code, from arrays of zeros on: the inputs and the outputs of the order, lowest first; bytes lo and hi of each record
 -- as numbers read down the order; the planes, from the ordinary records and then the stop records; the table

@@ -2,7 +2,6 @@
 ghost use Rattle.std.specs.Prelude.{◌≡◌, ◌≤◌, ◌<◌, ◌+◌, length};
 ghost use Rattle.sheet_spec.specs.Refusals.{out_of_range, times, each_once, not_each_once, place_of};
 
-use numbers::wide;
 use sheet_spec::{MOST_INPUTS, MOST_OUTPUTS};
 use stored_spec::Cell;
 
@@ -22,12 +21,10 @@ fn times(order: &[u8], v: usize) -> usize
     ensures { result ≡ times order.now v }
 {
     let mut found = 0;
-    let mut i = 0;
-    while i < order.len() {
-        if wide(order[i]) == v {
+    for x in order {
+        if usize::from(*x) == v {
             found += 1;
         }
-        i += 1;
     }
     found
 }
@@ -38,10 +35,8 @@ fn each_once(order: &[u8], v: usize, k: usize) -> bool
     ensures { result ≡ each_once order.now v k }
 {
     let mut all = true;
-    let mut i = 0;
-    while i < k {
+    for i in 0..k {
         all = all & (times(order, v + i) == 1);
-        i += 1;
     }
     all
 }
@@ -62,12 +57,8 @@ pub fn not_each_once(n: usize, m: usize, order: &[u8]) -> bool
 pub fn place_of(order: &[u8], v: usize) -> usize
     ensures { result ≡ place_of order.now v }
 {
-    let mut i = 0;
-    while i < order.len() {
-        if wide(order[i]) == v {
-            return i;
-        }
-        i += 1;
-    }
-    i
+    order
+        .iter()
+        .position(|x| usize::from(*x) == v)
+        .unwrap_or(order.len())
 }

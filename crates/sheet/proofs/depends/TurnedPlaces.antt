@@ -8,7 +8,7 @@ use native.Mathlib.Nat.{mod-lt, pow-suc, mul_comm, mul_assoc, suc-mul}
 use native.Mathlib.Numerals.{add-one}
 use native.Mathlib.Omega.{arith}
 use lib.Arith.{digits_div}
-use lib.Bits.{bit_and, bit_or, bit_xor}
+use lib.Bits.{bit_and, bit_or}
 use lib.Dec.{eqb, ltb, leb}
 use lib.ListN.{get_or}
 use lib.Pow.{pow_pos, pow-add, pow_mono}
@@ -23,7 +23,7 @@ use Rattle.laws.proofs.Masks.{no_bit}
 use Rattle.laws.proofs.Marks.{marks_grow, marks-run, marks_ext, marks-none}
 use Rattle.sheet_spec.specs.Job.{output_byte}
 use Rattle.sheet_spec.specs.Refusals.{place_of}
-use Rattle.sheet.specs.Planes.{CountsUp}
+use Rattle.sheet.specs.Planes.{added, agrees, CountsUp}
 use Rattle.sheet.specs.Depends.{apart_at, turned_at, above_mask}
 
 pub marks-first : (d : ℕ) (g : ℕ → ℕ) → d ≡ marks d g 0
@@ -124,25 +124,22 @@ module _ (order : List ℕ) (v o : ℕ) {w t u : ℕ} (e : w ≡ above_mask orde
   above_no h = rw (next (le-ltb u t h), add-one o, pow-suc 2 o) (omega arith)
 
 -- the loops within a block
-module _ (zs ys : List ℕ) (d base i found r : ℕ) where
-  pub far_step : (step : ℕ) → found ≡ marks d (λ k. apart_at zs ys (base + k) (base + step + k)) i
-      → r ≡ bit_or found (bit_or (bit_xor (get_or zs (base + i) 0) (get_or zs (base + step + i) 0)) (bit_xor (get_or ys (base + i) 0) (get_or ys (base + step + i) 0)))
-      → r ≡ marks d (λ k. apart_at zs ys (base + k) (base + step + k)) (i + 1)
-  unfolding apart_at
+module _ (zs ys : List ℕ) (d base i found v : ℕ) where
+  pub far_step : (step : ℕ) → found ≡ marks d (λ k. apart_at zs ys (base + k) (base + step + k)) i → v ≡ apart_at zs ys (base + i) (base + step + i)
+      → bit_or found v ≡ marks d (λ k. apart_at zs ys (base + k) (base + step + k)) (i + 1)
   far_step step e f =
       let g : ℕ → ℕ = λ k. apart_at zs ys (base + k) (base + step + k) in
-      f ∙ ap (λ (x : ℕ). bit_or x (g i)) e ∙ sym (marks_grow d g i)
+      ap₂ bit_or e f ∙ sym (marks_grow d g i)
 
-  pub near_step : (low : List ℕ) → CountsUp low → i < 256 → (q step flag : ℕ) → step ≡ 2 ^ q → flag ≡ 2 ^ q
+  pub near_step : (low : List ℕ) → CountsUp low → i < 256 → (q step flag w : ℕ) → step ≡ 2 ^ q → flag ≡ 2 ^ q
       → found ≡ marks d (λ k. cond (eqb (bit_and k (2 ^ q)) 0) (apart_at zs ys (base + k) (base + k + 2 ^ q)) 0) i
-      → r ≡ bit_or found
-      (cond (eqb (bit_and (get_or low i 0) flag) 0)
-      (bit_or (bit_xor (get_or zs (base + i) 0) (get_or zs (base + i + step) 0)) (bit_xor (get_or ys (base + i) 0) (get_or ys (base + i + step) 0))) 0)
-      → r ≡ marks d (λ k. cond (eqb (bit_and k (2 ^ q)) 0) (apart_at zs ys (base + k) (base + k + 2 ^ q)) 0) (i + 1)
-  unfolding apart_at
-  near_step low up l q step flag es ef e f =
+      → w ≡ apart_at zs ys (base + i) (base + i + step) → v ≡ added flag 0 w (get_or low i 0)
+      → bit_or found v ≡ marks d (λ k. cond (eqb (bit_and k (2 ^ q)) 0) (apart_at zs ys (base + k) (base + k + 2 ^ q)) 0) (i + 1)
+  unfolding added agrees
+  near_step low up l q step flag w es ef e f h =
       let g : ℕ → ℕ = λ k. cond (eqb (bit_and k (2 ^ q)) 0) (apart_at zs ys (base + k) (base + k + 2 ^ q)) 0 in
-      f ∙ rw (up i l, es, ef) refl ∙ ap (λ (x : ℕ). bit_or x (g i)) e ∙ sym (marks_grow d g i)
+      let here : v ≡ g i = h ∙ rw (up i l, ef, f, es) refl in
+      ap₂ bit_or e here ∙ sym (marks_grow d g i)
 
 -- the places step further are within the plane
 few-blocks : every 4 (λ p. every 16 (λ b. not (eqb (b / 2 ^ p % 2) 0) || leb (b + 2 ^ p + 1) 16)) ≡ true

@@ -2,22 +2,23 @@
 -- record that tests no upper bits is marked in a row that is spread over the blocks.
 -- Assumes nothing.
 use mathlib.Core.Path.{◌≡◌, refl, sym, ◌∙◌, ap, ap₂}
-use mathlib.Core.Bool.{Bool, true, false, cond, ◌&&◌}
+use mathlib.Core.Bool.{beq, Bool, true, false, cond, ◌&&◌}
 use mathlib.Core.List.{List}
 use Prim.Native.Nat.{ℕ, suc, ◌+◌, ◌*◌, ◌/◌, ◌%◌, ◌^◌, ◌<◌}
-use native.Mathlib.Nat.{div-add-mod', div-eq_of_lt, mod-lt}
+use native.Mathlib.Nat.{div-add-mod', div-eq_of_lt, mod-lt, mod-eq_of_lt}
 use native.Mathlib.Numerals.{add-one}
 use native.Mathlib.Omega.{arith}
-use borrow.Author.Tests.{eqb-true, eq-eqb, ne_eqb, ltb-true, ltb-false}
+use borrow.Author.Tests.{eqb-true, eq-eqb, ne_eqb, ltb-true, ltb-false, lt-ltb, le-ltb, lt-leb, le-leb}
 use lib.Arith.{digits_div, digits_mod}
 use lib.Bits.{bit_and, bit_or, and_block, and_le_r, and_zero_r, or_zero_l, or_zero_r}
-use lib.Dec.{eqb, ltb}
-use lib.ListN.{length, get_or}
+use lib.Dec.{eqb, ltb, leb}
+use lib.ListN.{length, get_or, replicate}
 use Rattle.laws.specs.Lists.{puts, puts_at}
-use Rattle.laws.specs.Bits.{bit}
-use Rattle.laws.proofs.Cases.{by_test, same_test, and_split, and_join, cond_same}
-use Rattle.laws.proofs.Puts.{puts-run, puts-kept, puts-same, puts_over, get_or-puts, get_or_unput}
-use Rattle.sheet.specs.Planes.{agrees, added, high_force, low_force, number_to, CountsUp}
+use Rattle.laws.specs.Bits.{bit, marks}
+use Rattle.laws.proofs.Marks.{marks_ext}
+use Rattle.laws.proofs.Cases.{by_test, by_less, same_test, and_split, and_join, cond_same}
+use Rattle.laws.proofs.Puts.{puts_ext, puts-run, puts-kept, puts-same, puts_over, get_or-puts, get_or_unput}
+use Rattle.sheet.specs.Planes.{agrees, added, high_force, low_force, some_added, high_added, low_added, high_plane, low_row, number_to, CountsUp}
 
 -- a number in base 256 equals another digit by digit
 digits_equal : (a i v : ℕ) → i < 256 → eqb (a * 256 + i) v ≡ (eqb a (v / 256) && eqb i (v % 256))
@@ -87,6 +88,62 @@ pub marked_none : (old : List ℕ) (k v n : ℕ) → old ≡ puts n (marked old 
 unfolding marked
 marked_none old k v n =
     puts-same (marked old k v 0) n old 0 (λ i h. sym (ap (λ (x : ℕ). bit_or (get_or old i 0) x) (added_none k v i) ∙ or_zero_r (get_or old i 0)))
+
+-- a record that is marked, and one that is not, among those that test upper bits or among those that test none
+module _ (upper : Bool) (ks vs fs plane : List ℕ) (n r : ℕ) where
+  pub some_marked : beq (leb 256 (get_or ks r 0)) upper ≡ true
+      → puts n (λ x. bit_or (get_or plane x 0) (added (get_or ks r 0) (get_or vs r 0) (get_or fs r 0) x)) plane ≡ puts n (λ x. bit_or (get_or plane x 0) (some_added upper ks vs fs x r)) plane
+  unfolding some_added
+  some_marked e =
+      let f : ℕ → ℕ = λ x. added (get_or ks r 0) (get_or vs r 0) (get_or fs r 0) x in
+      ap (λ (t : Bool). puts n (λ x. bit_or (get_or plane x 0) (cond t (f x) 0)) plane) (sym e)
+
+  pub some_kept : beq (leb 256 (get_or ks r 0)) upper ≡ false → plane ≡ puts n (λ x. bit_or (get_or plane x 0) (some_added upper ks vs fs x r)) plane
+  unfolding some_added
+  some_kept e =
+      let f : ℕ → ℕ = λ x. added (get_or ks r 0) (get_or vs r 0) (get_or fs r 0) x in
+      puts-same (λ x. bit_or (get_or plane x 0) 0) n plane 0 (λ i h. sym (or_zero_r (get_or plane i 0)))
+      ∙ ap (λ (t : Bool). puts n (λ x. bit_or (get_or plane x 0) (cond t (f x) 0)) plane) (sym e)
+
+-- those that test upper bits are marked on the plane, and those that test none in the row
+pub high_is : (ks vs fs : List ℕ) (x r : ℕ) → some_added true ks vs fs x r ≡ high_added ks vs fs x r
+unfolding some_added high_added high_force
+high_is ks vs fs x r =
+    let k = get_or ks r 0 in
+    let v = get_or vs r 0 in
+    let f = get_or fs r 0 in
+    by_less k 256 (λ l. rw (lt-leb 256 k l, lt-ltb k 256 l) (sym (added_none k v x))) (λ l. rw (le-leb 256 k l, le-ltb k 256 l) refl)
+
+low_agrees : (k v f x : ℕ) → k < 256 → added k v f x ≡ added (k % 256) (v % 256) (cond (ltb v 256) f 0) x
+unfolding added agrees
+low_agrees k v f x l =
+    by_less v 256 (λ p. rw (lt-ltb v 256 p, mod-eq_of_lt l, mod-eq_of_lt p) refl)
+    (λ p.
+    let apart : eqb (bit_and x k) v ≡ false = ne_eqb (bit_and x k) v (λ e. let low = and_le_r x k in absurd (omega arith)) in
+    rw (le-ltb v 256 p, apart) (sym (added_none (k % 256) (v % 256) x)))
+
+pub low_is : (ks vs fs : List ℕ) (x r : ℕ) → some_added false ks vs fs x r ≡ low_added ks vs fs x r
+unfolding some_added low_added low_force
+low_is ks vs fs x r =
+    let k = get_or ks r 0 in
+    let v = get_or vs r 0 in
+    let f = get_or fs r 0 in
+    by_less k 256 (λ l. rw (lt-leb 256 k l, lt-ltb k 256 l) (low_agrees k v f x l)) (λ l. rw (le-leb 256 k l, le-ltb k 256 l) (sym (added_none (k % 256) (v % 256) x)))
+
+-- the plane, and the row
+module _ (ks vs fs : List ℕ) (c : ℕ) where
+  pub high_marked : (old : List ℕ) → puts 4096 (λ x. marks (get_or old x 0) (some_added true ks vs fs x) c) old ≡ high_plane ks vs fs c old
+  unfolding high_plane
+  high_marked old =
+      puts_ext (λ x. marks (get_or old x 0) (some_added true ks vs fs x) c) (λ x. marks (get_or old x 0) (high_added ks vs fs x) c) 4096 old
+      (λ x h. marks_ext (get_or old x 0) (some_added true ks vs fs x) (high_added ks vs fs x) c (λ r l. high_is ks vs fs x r))
+
+  pub low_marked : puts 256 (λ i. marks (get_or (replicate 256 0) i 0) (some_added false ks vs fs i) c) (replicate 256 0) ≡ low_row ks vs fs c
+  unfolding low_row
+  low_marked =
+      let none : List ℕ = replicate 256 0 in
+      puts_ext (λ i. marks (get_or none i 0) (some_added false ks vs fs i) c) (λ i. marks (get_or none i 0) (low_added ks vs fs i) c) 256 none
+      (λ i h. marks_ext (get_or none i 0) (some_added false ks vs fs i) (low_added ks vs fs i) c (λ r l. low_is ks vs fs i r))
 
 -- the row over one block more
 pub spread_next : (old row plane : List ℕ) (b : ℕ) → plane ≡ puts (b * 256) (λ x. bit_or (get_or old x 0) (get_or row (x % 256) 0)) old

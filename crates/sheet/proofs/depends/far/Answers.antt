@@ -10,16 +10,16 @@ use Rattle.sheet.proofs.depends.far.Goals as goal
 pub loop-i-init : goal.loop-i-init
 loop-i-init c =
     let a = c.args in
-    (omega arith, marks-first a.d (λ k. apart_at a.zeros.now a.ones.now (a.base + k) (a.base + a.step + k)))
+    marks-first a.d (λ k. apart_at a.planes.now.zeros a.planes.now.ones (a.base + k) (a.base + a.step + k))
 
 pub loop-i-preserved : goal.loop-i-preserved
 loop-i-preserved c =
     let l = c.loop-i in
     let a = c.args in
-    (omega arith, far_step a.zeros.now a.ones.now a.d a.base l.i l.found _ a.step l.invariant.1 c.apart-found.ensures)
+    far_step a.planes.now.zeros a.planes.now.ones a.d a.base l.i l.found _ a.step l.invariant c.apart-found.ensures
 
 pub returns : goal.returns
 returns c =
     let l = c.loop-i in
     let e : l.i ≡ 256 = omega arith in
-    rw e at l.invariant.1
+    rw e at l.invariant

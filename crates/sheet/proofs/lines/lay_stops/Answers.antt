@@ -1,10 +1,9 @@
 -- `sheet::lines::lay_stops` meets its contract.
 -- Assumes nothing.
 use mathlib.Core.Path.{refl, ◌∙◌}
-use Rattle.sheet.specs.Planes.{kind_array, stops_over}
+use Rattle.sheet.specs.Planes.{stops_over}
 use Rattle.sheet.proofs.lines.lay_stops.Goals as goal
 
 pub returns : goal.returns
-unfolding stops_over kind_array
-returns c =
-    c.mark-2.ensures ∙ rw (c.load_byte-2.ensures, c.complement-2.ensures, c.mark.ensures, c.complement.ensures, c.load_byte.ensures) refl
+unfolding stops_over
+returns c = c.mark_kind-2.ensures ∙ rw (c.complement-2.ensures, c.mark_kind.ensures, c.complement.ensures) refl

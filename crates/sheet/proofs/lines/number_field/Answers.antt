@@ -7,4 +7,4 @@ use Rattle.sheet.proofs.lines.number_field.Goals as goal
 pub returns : goal.returns
 unfolding number_array field_array
 returns c =
-    c.number_words.ensures ∙ rw (c.requires.4, c.load.ensures) refl
+    c.number_words.ensures ∙ rw (c.requires.2, c.load.ensures) refl

@@ -7,4 +7,4 @@ use Rattle.sheet.proofs.lines.write.Goals as goal
 pub returns : goal.returns
 unfolding output_array
 returns c =
-    c.write_lines.ensures ∙ rw c.output_list.ensures refl
+    c.write_lines.ensures ∙ rw c.list_of.ensures refl

@@ -10,19 +10,16 @@ use Rattle.sheet.proofs.lines.write_line.Goals as goal
 pub loop-x-init : goal.loop-x-init
 loop-x-init c =
     let a = c.args in
-    (omega arith, sym (puts_at-none (λ x. line_value (get_or a.zeros.now x 0) (get_or a.ones.now x 0) a.o) a.base a.table.now))
+    sym (puts_at-none (λ x. line_value (get_or a.planes.now.zeros x 0) (get_or a.planes.now.ones x 0) a.o) a.base a.table.now)
 
 pub loop-x-preserved : goal.loop-x-preserved
 loop-x-preserved c =
     let l = c.loop-x in
-    let a = c.args in (
-      omega arith,
-      puts_at-next (λ x. line_value (get_or a.zeros.now x 0) (get_or a.ones.now x 0) a.o) a.base l.x a.table.now l.table _ l.invariant.1 c.value_of.ensures,
-    )
+    let a = c.args in puts_at-next (λ x. line_value (get_or a.planes.now.zeros x 0) (get_or a.planes.now.ones x 0) a.o) a.base l.x a.table.now l.table _ l.invariant c.value_of.ensures
 
 pub returns : goal.returns
 returns c =
     let l = c.loop-x in
     let a = c.args in
     let e : l.x ≡ a.count = omega arith in
-    rw e at l.invariant.1
+    rw e at l.invariant

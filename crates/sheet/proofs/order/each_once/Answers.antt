@@ -11,10 +11,10 @@ use Rattle.sheet.proofs.order.each_once.Goals as goal
 pub loop-i-preserved : goal.loop-i-preserved
 loop-i-preserved c =
     let a = c.args in
-    (omega arith, every-step (λ j. eqb (times a.order.now (a.v + j)) 1) c.loop-i.i c.loop-i.invariant.1 (ap (λ (x : ℕ). eqb x 1) c.times.ensures))
+    every-step (λ j. eqb (times a.order.now (a.v + j)) 1) c.loop-i.i c.loop-i.invariant (ap (λ (x : ℕ). eqb x 1) c.times.ensures)
 
 pub returns : goal.returns
 unfolding each_once
 returns c =
     let e : c.loop-i.i ≡ c.args.k = omega arith in
-    rw e at c.loop-i.invariant.1
+    rw e at c.loop-i.invariant

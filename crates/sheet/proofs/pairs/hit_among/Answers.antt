@@ -10,9 +10,9 @@ use Rattle.sheet.proofs.pairs.hit_among.Goals as goal
 pub loop-r-preserved : goal.loop-r-preserved
 loop-r-preserved c =
     let a = c.args in
-    (omega arith, any_step (λ k. any k (hit_in a.masks.now a.values.now a.forces.now a.against.now k)) c.loop-r.r c.loop-r.invariant.1 c.hit_before-hit.ensures)
+    any_step (λ k. any k (hit_in a.tests.now.masks a.tests.now.values a.all.now.forces a.all.now.against k)) c.loop-r.r c.loop-r.invariant c.hit_before-hit.ensures
 
 pub returns : goal.returns
 returns c =
     let e : c.loop-r.r ≡ c.args.count = omega arith in
-    rw e at c.loop-r.invariant.1
+    rw e at c.loop-r.invariant

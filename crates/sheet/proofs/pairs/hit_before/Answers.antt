@@ -10,9 +10,9 @@ pub loop-q-preserved : goal.loop-q-preserved
 unfolding hit_in
 loop-q-preserved c =
     let a = c.args in
-    (omega arith, any_step (hit_in a.masks.now a.values.now a.forces.now a.against.now a.r) c.loop-q.q c.loop-q.invariant.1 refl)
+    any_step (hit_in a.tests.now.masks a.tests.now.values a.all.now.forces a.all.now.against a.r) c.loop-q.q c.loop-q.invariant refl
 
 pub returns : goal.returns
 returns c =
     let e : c.loop-q.q ≡ c.args.r = omega arith in
-    rw e at c.loop-q.invariant.1
+    rw e at c.loop-q.invariant

@@ -10,18 +10,18 @@ use Rattle.sheet.specs.Planes.{complemented}
 use Rattle.sheet.proofs.planes.complement.Goals as goal
 
 pub loop-x-init : goal.loop-x-init
-loop-x-init c = (omega arith, sym (puts_none (λ k. bit_xor (get_or c.args.plane.now k 0) 255) c.args.plane.now))
+loop-x-init c = sym (puts_none (λ k. bit_xor (get_or c.args.plane.now k 0) 255) c.args.plane.now)
 
 pub loop-x-preserved : goal.loop-x-preserved
 loop-x-preserved c =
     let l = c.loop-x in
     let p = c.args.plane.now in
     let f : ℕ → ℕ = λ k. bit_xor (get_or p k 0) 255 in
-    (omega arith, puts-next f l.x p l.plane _ l.invariant.1 (ap (λ (v : ℕ). bit_xor v 255) (get_or-next f l.x p l.plane 0 l.invariant.1)))
+    puts-next f l.x p l.plane _ l.invariant (ap (λ (v : ℕ). bit_xor v 255) (get_or-next f l.x p l.plane 0 l.invariant))
 
 pub returns : goal.returns
 unfolding complemented
 returns c =
     let l = c.loop-x in
     let e : l.x ≡ 4096 = omega arith in
-    rw e at l.invariant.1
+    rw e at l.invariant

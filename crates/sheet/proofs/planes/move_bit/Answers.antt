@@ -12,7 +12,7 @@ use Rattle.laws.proofs.Bits.{bit-lt}
 use Rattle.sheet.proofs.planes.move_bit.Goals as goal
 
 pub loop-r-init : goal.loop-r-init
-loop-r-init c = (omega arith, sym (puts_none (λ r. bit_or (get_or c.args.numbers.now r 0) (bit (get_or c.args.words.now r 0) c.args.from * 2 ^ c.args.k)) c.args.numbers.now))
+loop-r-init c = sym (puts_none (λ r. bit_or (get_or c.args.numbers.now r 0) (bit (get_or c.args.words.now r 0) c.args.from * 2 ^ c.args.k)) c.args.numbers.now)
 
 pub loop-r-preserved : goal.loop-r-preserved
 loop-r-preserved c =
@@ -20,14 +20,11 @@ loop-r-preserved c =
     let a = c.args in
     let g : ℕ → ℕ = λ r. bit_or (get_or a.numbers.now r 0) (bit (get_or a.words.now r 0) a.from * 2 ^ a.k) in
     let old : get_or l.numbers l.r 0 ≡ get_or a.numbers.now l.r 0 =
-    get_or-next g l.r a.numbers.now l.numbers 0 l.invariant.1 in (
-      omega arith,
-      puts-next g l.r a.numbers.now l.numbers _ l.invariant.1
-          (ap₂ bit_or old (shl_exact 1 a.k 16 (bit-lt (get_or a.words.now l.r 0) a.from) (omega arith))),
-    )
+    get_or-next g l.r a.numbers.now l.numbers 0 l.invariant in puts-next g l.r a.numbers.now l.numbers _ l.invariant
+    (ap₂ bit_or old (shl_exact 1 a.k 16 (bit-lt (get_or a.words.now l.r 0) a.from) (omega arith)))
 
 pub returns : goal.returns
 returns c =
     let l = c.loop-r in
     let e : l.r ≡ 256 = omega arith in
-    rw e at l.invariant.1
+    rw e at l.invariant

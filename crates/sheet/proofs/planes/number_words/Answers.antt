@@ -7,20 +7,17 @@ use Rattle.sheet.proofs.planes.PlaceBlocks.{numbers_start, numbers-next}
 use Rattle.sheet.proofs.planes.number_words.Goals as goal
 
 pub loop-k-init : goal.loop-k-init
-loop-k-init c = (omega arith, numbers_start c.args.numbers.now c.args.inputs.now c.args.words.now 256)
+loop-k-init c = numbers_start c.args.numbers.now c.args.inputs.now c.args.words.now 256
 
 pub loop-k-preserved : goal.loop-k-preserved
 loop-k-preserved c =
     let l = c.loop-k in
-    let a = c.args in (
-      omega arith,
-      c.move_bit.ensures
-          ∙ numbers-next a.numbers.now a.inputs.now a.words.now l.numbers 256 l.k _ l.invariant.1 (ap (λ (x : ℕ). x % 16) c.wide.ensures.0),
-    )
+    let a = c.args in c.move_bit.ensures
+    ∙ numbers-next a.numbers.now a.inputs.now a.words.now l.numbers 256 l.k _ l.invariant (ap (λ (x : ℕ). x % 16) c.from.ensures)
 
 pub returns : goal.returns
 returns c =
     let l = c.loop-k in
     let a = c.args in
     let e : l.k ≡ a.n = omega arith in
-    rw e at l.invariant.1
+    rw e at l.invariant

@@ -12,16 +12,16 @@ use Rattle.sheet.proofs.planes.spread.Goals as goal
 pub loop-b-init : goal.loop-b-init
 loop-b-init c =
     let a = c.args in
-    (omega arith, sym (puts_none (λ x. bit_or (get_or a.plane.now x 0) (get_or a.row.now (x % 256) 0)) a.plane.now))
+    sym (puts_none (λ x. bit_or (get_or a.plane.now x 0) (get_or a.row.now (x % 256) 0)) a.plane.now)
 
 pub loop-b-preserved : goal.loop-b-preserved
 loop-b-preserved c =
     let l = c.loop-b in
     let a = c.args in
-    (omega arith, c.spread_block.ensures ∙ spread_next a.plane.now a.row.now l.plane l.b l.invariant.1)
+    c.spread_block.ensures ∙ spread_next a.plane.now a.row.now l.plane l.b l.invariant
 
 pub returns : goal.returns
 returns c =
     let l = c.loop-b in
     let e : l.b ≡ 16 = omega arith in
-    rw e at l.invariant.1
+    rw e at l.invariant

@@ -11,10 +11,10 @@ use Rattle.sheet.proofs.records.any_malformed.Goals as goal
 pub loop-r-preserved : goal.loop-r-preserved
 loop-r-preserved c =
     let a = c.args in
-    (omega arith, any_step (malformed a.n a.m a.sheet.now) c.loop-r.r c.loop-r.invariant.1 c.is_malformed-found.ensures)
+    any_step (malformed a.n a.m a.sheet.now) c.loop-r.r c.loop-r.invariant c.is_malformed-found.ensures
 
 pub returns : goal.returns
 unfolding any_malformed
 returns c =
     let e : c.loop-r.r ≡ length c.args.sheet.now / 8 = omega arith in
-    rw e at c.loop-r.invariant.1
+    rw e at c.loop-r.invariant

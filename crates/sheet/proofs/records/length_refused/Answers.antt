@@ -8,6 +8,6 @@ pub returns-then-sheet-ne0 : goal.returns-then-sheet-ne0
 unfolding refuse3
 returns-then-sheet-ne0 c = rw (ne_eqb _ _ c.if-sheet-ne0.true)
 
-pub returns : goal.returns
+pub returns-else-sheet-ne0 : goal.returns-else-sheet-ne0
 unfolding refuse3
-returns c = rw (eq-eqb _ _ c.if-sheet-ne0.false)
+returns-else-sheet-ne0 c = rw (eq-eqb _ _ c.if-sheet-ne0.false)

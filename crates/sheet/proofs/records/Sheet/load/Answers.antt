@@ -8,7 +8,7 @@ use lib.ListN.{length}
 use Rattle.laws.specs.Lists.{puts}
 use Rattle.laws.proofs.Puts.{puts-next}
 use Rattle.sheet.specs.Pairs.{pair_of}
-use Rattle.sheet.proofs.records.load.Goals as goal
+use Rattle.sheet.proofs.records.Sheet.load.Goals as goal
 
 pub loop-r-init : goal.loop-r-init
 unfolding puts
@@ -17,9 +17,9 @@ loop-r-init c = search rules
 pub loop-r-preserved : goal.loop-r-preserved
 loop-r-preserved c =
     let a = c.args in
-    (omega arith, puts-next (pair_of a.sheet.now a.lo a.hi) c.loop-r.r a.out.now c.loop-r.out _ c.loop-r.invariant.1 c.pair.ensures.0)
+    puts-next (pair_of a.self.now.bytes.now a.lo a.hi) c.loop-r.r a.out.now c.loop-r.out _ c.loop-r.invariant c.pair.ensures
 
 pub returns : goal.returns
 returns c =
-    let e : c.loop-r.r ≡ length c.args.sheet.now / 8 = omega arith in
-    rw e at c.loop-r.invariant.1
+    let e : c.loop-r.r ≡ length c.args.self.now.bytes.now / 8 = omega arith in
+    rw e at c.loop-r.invariant

@@ -6,21 +6,21 @@ use native.Mathlib.Omega.{arith}
 use lib.ListN.{length}
 use Rattle.laws.proofs.Puts.{puts_none, puts-next}
 use Rattle.sheet.specs.Planes.{kind_byte}
-use Rattle.sheet.proofs.records.load_byte.Goals as goal
+use Rattle.sheet.proofs.records.Sheet.load_byte.Goals as goal
 
 pub loop-r-init : goal.loop-r-init
 loop-r-init c =
     let a = c.args in
-    (omega arith, sym (puts_none (kind_byte a.sheet.now a.kind a.at) a.out.now))
+    sym (puts_none (kind_byte a.self.now.bytes.now a.kind a.at) a.out.now)
 
 pub loop-r-preserved : goal.loop-r-preserved
 unfolding kind_byte
 loop-r-preserved c =
     let l = c.loop-r in
     let a = c.args in
-    (omega arith, puts-next (kind_byte a.sheet.now a.kind a.at) l.r a.out.now l.out _ l.invariant.1 c.of_kind.ensures)
+    puts-next (kind_byte a.self.now.bytes.now a.kind a.at) l.r a.out.now l.out _ l.invariant c.of_kind.ensures
 
 pub returns : goal.returns
 returns c =
-    let e : c.loop-r.r ≡ length c.args.sheet.now / 8 = omega arith in
-    rw e at c.loop-r.invariant.1
+    let e : c.loop-r.r ≡ length c.args.self.now.bytes.now / 8 = omega arith in
+    rw e at c.loop-r.invariant

@@ -1,4 +1,4 @@
--- `sheet::records::any_stop` meets its contract.
+-- `sheet::records::Sheet::any_stop` meets its contract.
 -- Assumes nothing.
 use mathlib.Core.Path.{◌≡◌, refl}
 use Prim.Native.Nat.{◌/◌}
@@ -8,16 +8,16 @@ use lib.ListN.{length}
 use Rattle.laws.proofs.Tests.{any_step}
 use Rattle.sheet_spec.specs.Records.{kind, stop}
 use Rattle.sheet.specs.Planes.{any_stop}
-use Rattle.sheet.proofs.records.any_stop.Goals as goal
+use Rattle.sheet.proofs.records.Sheet.any_stop.Goals as goal
 
 pub loop-r-preserved : goal.loop-r-preserved
 loop-r-preserved c =
     let l = c.loop-r in
-    let s = c.args.sheet.now in
-    (omega arith, any_step (λ k. eqb (kind s k) stop) l.r l.invariant.1 refl)
+    let s = c.args.self.now.bytes.now in
+    any_step (λ k. eqb (kind s k) stop) l.r l.invariant refl
 
 pub returns : goal.returns
 unfolding any_stop
 returns c =
-    let e : c.loop-r.r ≡ length c.args.sheet.now / 8 = omega arith in
-    rw e at c.loop-r.invariant.1
+    let e : c.loop-r.r ≡ length c.args.self.now.bytes.now / 8 = omega arith in
+    rw e at c.loop-r.invariant
