@@ -1,16 +1,34 @@
 -- One height further down as the code goes: from the planes zs and os of w packed columns the columns below, their cliques and products.
 -- a inputs and b outputs stand below, and a column below has size words.
 -- Assumes nothing.
-use Rattle.std.specs.Prelude.{ℕ, ◌+◌, ◌*◌, Bool, cond, List, eqb, length, get_or, replicate}
+use Rattle.std.specs.Prelude.{ℕ, ◌+◌, ◌*◌, Bool, cond, List, eqb, leb, length, get_or, replicate, Result, Ok, Err}
 use Rattle.std.proofs.lemmas.List.Edits.{sets}
 use Rattle.laws.specs.Lists.{tab, rect, puts}
 use Rattle.laws.specs.Bits.{flag}
+use Rattle.refusals.specs.declared.Refusal.{Refusal}
+use Rattle.refusals.specs.declared.Refusal.TheVariants.{TooWide}
 use Rattle.reduction_spec.specs.Numbering.{index_in, firsts_of}
 use Rattle.reduction_spec.specs.Cover.{cover}
 use Rattle.reduction.specs.Packed.{candidates_of, added_columns, value_in}
 use Rattle.reduction.specs.Distinct.{same_words, linked_words, same_owner}
 use Rattle.reduction_spec.specs.declared.Node.{Node}
 use Rattle.reduction_spec.specs.Diagram.{node}
+
+-- the answer n, refused where more than 512 columns stand at a height before its merge
+abbrev pub narrow_or : (before n : ℕ) → Result ℕ Refusal
+narrow_or before n = cond (leb before 512) (Ok n) (Err TooWide)
+
+-- the number of the first node at a height, where count nodes stand above it
+abbrev pub first_node : (height count : ℕ) → ℕ
+first_node height count = cond (eqb height 0) 1 (2 + count)
+
+-- the node of column c right above a height: values has the columns' values of the output there, below the numbers of the candidates, and the
+-- nodes below begin with the number base
+unfoldable pub node_over : Bool → (height base : ℕ) → (values below : List ℕ) → ℕ → Node
+node_over input height base values below c =
+    let next = base + get_or below c 0 in
+    let split = node height (base + get_or below (c * 2) 0) (base + get_or below (c * 2 + 1) 0) in
+    cond input split (node height (cond (eqb (get_or values c 0) 1) 0 next) (cond (eqb (get_or values c 0) 0) 0 next))
 
 -- the cliques of the w columns ps of the planes
 module _ (size : ℕ) (zs os : List ℕ) (w : ℕ) (ps : List ℕ) where

@@ -1,34 +1,24 @@
 // The cover of columns by cliques. Each column that is left has a key, its edges * 512 + its number: the least key is the column with
 // fewest edges, ties to the lowest number. Edges are counted once; when a clique leaves, the keys of the others are lowered by its members.
-ghost use Rattle.std.specs.Prelude.{◌≡◌, ℕ, ◌≤◌, ◌<◌, ◌+◌, ◌*◌, ◌%◌, min, eqb, get_or};
+ghost use Rattle.std.specs.Prelude.{◌≡◌, ℕ, ◌≤◌, ◌<◌, ◌+◌, ◌*◌, ◌%◌, eqb, get_or};
 ghost use Rattle.laws.specs.Bits.{flag};
 ghost use Rattle.laws.specs.Lists.{puts};
 ghost use Rattle.reduction_spec.specs.Cover.{is_in, cover};
 ghost use Rattle.reduction.specs.RunningKeys.{Growth, Stand, degree, fewer_by, first_key, growing, joining, keeping, least_key, lowered_keys, stored_for, turn, turns};
 
-use crate::casts::narrow16;
-use numbers::{long16, wide16};
 use reduction_spec::{Links, MOST_COLUMNS};
 
-fn lesser(a: u32, b: u32) -> u32
-    ensures { result ≡ min a b }
-{
-    if a < b {
-        return a;
-    }
-    b
-}
+// The key of a column that is not left.
+const GONE: u32 = u32::MAX;
 
 // The least of the first w keys.
 fn least_key(w: usize, keys: &[u32; MOST_COLUMNS]) -> u32
     requires { w ≤ 512 }
     ensures { result ≡ least_key keys.now w }
 {
-    let mut k = 4294967295;
-    let mut i = 0;
-    while i < w {
-        k = lesser(keys[i], k);
-        i += 1;
+    let mut k = GONE;
+    for i in 0..w {
+        k = keys[i].min(k);
     }
     k
 }
@@ -37,10 +27,7 @@ fn least_key(w: usize, keys: &[u32; MOST_COLUMNS]) -> u32
 fn one(x: u8) -> u16
     ensures { (result ≡ flag (eqb x 1)) × (result ≤ 1) }
 {
-    if x == 1 {
-        return 1;
-    }
-    0
+    u16::from(x == 1)
 }
 
 // The edges of column c when all columns are left. A column is not its own neighbour, whatever its flag.
@@ -50,10 +37,8 @@ fn degree(w: usize, link: &Links, c: usize) -> u16
 {
     let base = c * w;
     let mut n: u16 = 0;
-    let mut d = 0;
-    while d < w {
+    for d in 0..w {
         n += one(link[base + d]);
-        d += 1;
     }
     n - one(link[base + c])
 }
@@ -63,10 +48,8 @@ fn first_keys(w: usize, link: &Links, keys: &mut [u32; MOST_COLUMNS])
     requires { w ≤ 512 }
     ensures { keys.new ≡ puts w (first_key w link.now) keys.old }
 {
-    let mut c = 0;
-    while c < w {
-        keys[c] = long16(degree(w, link, c)) * 512 + (c as u32);
-        c += 1;
+    for c in 0..w {
+        keys[c] = u32::from(degree(w, link, c)) * 512 + (c as u32);
     }
 }
 
@@ -74,9 +57,9 @@ fn first_keys(w: usize, link: &Links, keys: &mut [u32; MOST_COLUMNS])
 fn fewer_by(j: u16, k: u32) -> u32
     ensures { result ≡ fewer_by j k }
 {
-    let taken = lesser(long16(j), k / 512) * 512;
-    if k == 4294967295 {
-        return 4294967295;
+    let taken = u32::from(j).min(k / 512) * 512;
+    if k == GONE {
+        return GONE;
     }
     k - taken
 }
@@ -88,7 +71,7 @@ fn keeping(x: u8, k: u32) -> u32
     if x == 1 {
         return k;
     }
-    4294967295
+    GONE
 }
 
 // Candidates stay along the line of the graph that starts at base.
@@ -96,10 +79,8 @@ fn keep(w: usize, link: &Links, base: usize, cand: &mut [u32; MOST_COLUMNS])
     requires { (w ≤ 512) × (base + w ≤ 262144) }
     ensures { cand.new ≡ puts w (λ d. keeping (get_or link.now (base + d) 0) (get_or cand.old d 0)) cand.old }
 {
-    let mut d = 0;
-    while d < w {
+    for d in 0..w {
         cand[d] = keeping(link[base + d], cand[d]);
-        d += 1;
     }
 }
 
@@ -116,9 +97,9 @@ fn join(
     ensures { ◌≡◌ {A = Growth} (record { cand = cand.exit.now; members = members.new; count = count + 1 })
         (joining w link.now u (record { cand = cand.entry.now; members = members.old; count = count })) }
 {
-    members[count] = narrow16(u);
+    members[count] = u as u16;
     keep(w, link, u * w, cand);
-    cand[u] = 4294967295;
+    cand[u] = GONE;
 }
 
 // The column of a key.
@@ -141,16 +122,14 @@ fn grow(
         (growing w link.now w (record { cand = cand.entry.now; members = members.old; count = 0 })) }
 {
     let mut k = first;
-    let mut i = 0;
-    while i < w {
-        if k == 4294967295 {
-            return i;
+    for count in 0..w {
+        if k == GONE {
+            return count;
         }
-        join(w, link, column(k), i, cand, members);
+        join(w, link, column(k), count, cand, members);
         k = least_key(w, cand);
-        i += 1;
     }
-    i
+    w
 }
 
 // Each of the members is gone, and has the number g.
@@ -165,12 +144,10 @@ fn mark(
     ensures keys_after { keys.new ≡ stored_for 4294967295 count members.now keys.old }
     ensures owner_after { owner.new ≡ stored_for g count members.now owner.old }
 {
-    let mut i = 0;
-    while i < count {
-        let member = wide16(members[i]);
-        keys[member] = 4294967295;
+    for i in 0..count {
+        let member = usize::from(members[i]);
+        keys[member] = GONE;
         owner[member] = g;
-        i += 1;
     }
 }
 
@@ -179,10 +156,8 @@ fn add_line(w: usize, link: &Links, base: usize, tally: &mut [u16; MOST_COLUMNS]
     requires { (w ≤ 512) × (base + w ≤ 262144) × ((d : ℕ) → d < w → get_or tally.old d 0 < 512) }
     ensures { tally.new ≡ puts w (λ d. get_or tally.old d 0 + flag (is_in link.now (base + d))) tally.old }
 {
-    let mut d = 0;
-    while d < w {
+    for d in 0..w {
         tally[d] = tally[d] + one(link[base + d]);
-        d += 1;
     }
 }
 
@@ -191,10 +166,8 @@ fn lower(w: usize, tally: &[u16; MOST_COLUMNS], keys: &mut [u32; MOST_COLUMNS])
     requires { w ≤ 512 }
     ensures { keys.new ≡ puts w (λ c. fewer_by (get_or tally.now c 0) (get_or keys.old c 0)) keys.old }
 {
-    let mut c = 0;
-    while c < w {
+    for c in 0..w {
         keys[c] = fewer_by(tally[c], keys[c]);
-        c += 1;
     }
 }
 
@@ -211,34 +184,10 @@ fn lower_by_clique(
     ensures { keys.new ≡ lowered_keys w link.now count members.now keys.old }
 {
     let mut tally = [0u16; MOST_COLUMNS];
-    let mut i = 0;
-    while i < count {
-        add_line(w, link, wide16(members[i]) * w, &mut tally);
-        i += 1;
+    for i in 0..count {
+        add_line(w, link, usize::from(members[i]) * w, &mut tally);
     }
     lower(w, &tally, keys);
-}
-
-fn copy_keys(w: usize, from: &[u32; MOST_COLUMNS], to: &mut [u32; MOST_COLUMNS])
-    requires { w ≤ 512 }
-    ensures { to.new ≡ puts w (λ c. get_or from.now c 0) to.old }
-{
-    let mut c = 0;
-    while c < w {
-        to[c] = from[c];
-        c += 1;
-    }
-}
-
-fn copy_numbers(w: usize, from: &[u16; MOST_COLUMNS], to: &mut [u16; MOST_COLUMNS])
-    requires { w ≤ 512 }
-    ensures { to.new ≡ puts w (λ c. get_or from.now c 0) to.old }
-{
-    let mut c = 0;
-    while c < w {
-        to[c] = from[c];
-        c += 1;
-    }
 }
 
 // The round of clique g, where k is the least key. A column without edges is a clique of its own.
@@ -256,12 +205,12 @@ fn turn(
 {
     if k < 512 {
         let u = column(k);
-        keys[u] = 4294967295;
+        keys[u] = GONE;
         owner[u] = g;
         return;
     }
     let mut cand = [0u32; MOST_COLUMNS];
-    copy_keys(w, keys, &mut cand);
+    cand[..w].copy_from_slice(&keys[..w]);
     let mut members = [0u16; MOST_COLUMNS];
     let count = grow(w, link, k, &mut cand, &mut members);
     mark(count, &members, g, keys, owner);
@@ -274,14 +223,12 @@ fn turns(w: usize, link: &Links, keys: &mut [u32; MOST_COLUMNS], owner: &mut [u1
     ensures { ◌≡◌ {A = Stand} (record { keys = keys.exit.now; owner = owner.new })
         (turns w link.now w 0 (record { keys = keys.entry.now; owner = owner.old })) }
 {
-    let mut g = 0;
-    while g < w {
+    for g in 0..w {
         let k = least_key(w, keys);
-        if k == 4294967295 {
+        if k == GONE {
             return;
         }
         turn(w, link, g as u16, k, keys, owner);
-        g += 1;
     }
 }
 
@@ -294,5 +241,5 @@ pub fn cover(w: usize, link: &Links, owner: &mut [u16; MOST_COLUMNS])
     let mut numbers = [0u16; MOST_COLUMNS];
     first_keys(w, link, &mut keys);
     turns(w, link, &mut keys, &mut numbers);
-    copy_numbers(w, &numbers, owner);
+    owner[..w].copy_from_slice(&numbers[..w]);
 }

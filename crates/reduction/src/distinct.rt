@@ -1,15 +1,17 @@
 // Numbering of packed columns by their smallest member. Most columns are told apart by a key of 32 bits.
-ghost use Rattle.std.specs.Prelude.{◌≡◌, cond, ◌&&◌, ◌≤◌, ◌<◌, ◌+◌, ◌*◌, eqb, leb, length, get_or, set};
+ghost use Rattle.std.specs.Prelude.{◌≡◌, cond, ◌&&◌, ◌≤◌, ◌<◌, ◌+◌, ◌*◌, eqb, length, get_or, set, OnOk};
 ghost use Rattle.std.proofs.lemmas.List.Edits.{sets};
 ghost use Rattle.laws.specs.Tests.{any, least};
 ghost use Rattle.laws.specs.Lists.{puts};
 ghost use Rattle.laws.specs.Bits.{flag};
 ghost use Rattle.reduction_spec.specs.Numbering.{index_in, firsts_of};
 ghost use Rattle.reduction.specs.Distinct.{same_words};
+ghost use Rattle.reduction.specs.Lowering.{narrow_or};
 ghost use Rattle.reduction.specs.ColumnHashes.{stirred, folded, key_of, is_kept, Inside};
 
-use numbers::wide16;
+use crate::state::Planes;
 use reduction_spec::MOST_COLUMNS;
+use refusals::Refusal;
 
 // The words z and y stirred into k.
 fn stir(k: u64, z: u64, y: u64) -> u64
@@ -25,16 +27,14 @@ fn fold(k: u64) -> u32
 }
 
 // The key of column q.
-fn key(zero: &[u64; 1024], one: &[u64; 1024], size: usize, q: usize) -> u32
+fn key(planes: &Planes, size: usize, q: usize) -> u32
     requires { q * size + size ≤ 1024 }
-    ensures { result ≡ key_of zero.now one.now size q }
+    ensures { result ≡ key_of planes.now.zero planes.now.one size q }
 {
     let from = q * size;
     let mut k = 0u64;
-    let mut i = 0;
-    while i < size {
-        k = stir(k, zero[from + i], one[from + i]);
-        i += 1;
+    for i in 0..size {
+        k = stir(k, planes.zero[from + i], planes.one[from + i]);
     }
     fold(k)
 }
@@ -43,10 +43,7 @@ fn key(zero: &[u64; 1024], one: &[u64; 1024], size: usize, q: usize) -> u32
 fn hit(a: u32, b: u32) -> u32
     ensures { result ≡ flag (eqb a b) }
 {
-    if a == b {
-        return 1;
-    }
-    0
+    u32::from(a == b)
 }
 
 // Whether k is among the first count keys. No branch: the loop is taken several keys at a time.
@@ -55,57 +52,44 @@ fn any_key(keys: &[u32; MOST_COLUMNS], count: usize, k: u32) -> bool
     ensures { result ≡ any count (λ c. eqb (get_or keys.now c 0) k) }
 {
     let mut found = 0u32;
-    let mut c = 0;
-    while c < count {
+    for c in 0..count {
         found = found | hit(keys[c], k);
-        c += 1;
     }
     found == 1
 }
 
 // Whether the columns p and q are equal.
-fn same_at(zero: &[u64; 1024], one: &[u64; 1024], size: usize, p: usize, q: usize) -> bool
+fn same_at(planes: &Planes, size: usize, p: usize, q: usize) -> bool
     requires { (p * size + size ≤ 1024) × (q * size + size ≤ 1024) }
-    ensures { result ≡ same_words zero.now one.now size p q }
+    ensures { result ≡ same_words planes.now.zero planes.now.one size p q }
 {
     let a = p * size;
     let b = q * size;
-    let mut i = 0;
-    while i < size {
-        if zero[a + i] != zero[b + i] {
+    for i in 0..size {
+        if planes.zero[a + i] != planes.zero[b + i] {
             return false;
         }
-        if one[a + i] != one[b + i] {
+        if planes.one[a + i] != planes.one[b + i] {
             return false;
         }
-        i += 1;
     }
     true
 }
 
 // Whether column q, with the key k, equals column p, with the key key.
-fn matches(
-    zero: &[u64; 1024],
-    one: &[u64; 1024],
-    size: usize,
-    key: u32,
-    k: u32,
-    q: usize,
-    p: usize,
-) -> bool
+fn matches(planes: &Planes, size: usize, key: u32, k: u32, q: usize, p: usize) -> bool
     requires { (q * size + size ≤ 1024) × (p * size + size ≤ 1024) }
-    ensures { result ≡ (eqb key k && same_words zero.now one.now size q p) }
+    ensures { result ≡ (eqb key k && same_words planes.now.zero planes.now.one size q p) }
 {
     if key == k {
-        return same_at(zero, one, size, q, p);
+        return same_at(planes, size, q, p);
     }
     false
 }
 
 // The first of the count columns kept that has the key k and equals column q; count where there is none.
 fn find_same(
-    zero: &[u64; 1024],
-    one: &[u64; 1024],
+    planes: &Planes,
     size: usize,
     keys: &[u32; MOST_COLUMNS],
     kept: &[u16; MOST_COLUMNS],
@@ -114,22 +98,19 @@ fn find_same(
     k: u32,
 ) -> usize
     requires { (count ≤ 512) × (q * size + size ≤ 1024) × Inside count size kept.now }
-    ensures { result ≡ least count (is_kept zero.now one.now size keys.now kept.now q k) }
+    ensures { result ≡ least count (is_kept planes.now.zero planes.now.one size keys.now kept.now q k) }
 {
-    let mut c = 0;
-    while c < count {
-        if matches(zero, one, size, keys[c], k, q, wide16(kept[c])) {
+    for c in 0..count {
+        if matches(planes, size, keys[c], k, q, usize::from(kept[c])) {
             return c;
         }
-        c += 1;
     }
     count
 }
 
 // The same, quicker where no key is k.
 fn index_of(
-    zero: &[u64; 1024],
-    one: &[u64; 1024],
+    planes: &Planes,
     size: usize,
     keys: &[u32; MOST_COLUMNS],
     kept: &[u16; MOST_COLUMNS],
@@ -138,10 +119,10 @@ fn index_of(
     k: u32,
 ) -> usize
     requires { (count ≤ 512) × (q * size + size ≤ 1024) × Inside count size kept.now }
-    ensures { result ≡ least count (is_kept zero.now one.now size keys.now kept.now q k) }
+    ensures { result ≡ least count (is_kept planes.now.zero planes.now.one size keys.now kept.now q k) }
 {
     if any_key(keys, count, k) {
-        return find_same(zero, one, size, keys, kept, count, q, k);
+        return find_same(planes, size, keys, kept, count, q, k);
     }
     count
 }
@@ -168,56 +149,36 @@ fn keep(
     count
 }
 
-// The first count elements.
-fn copy(kept: &[u16; MOST_COLUMNS], count: usize, firsts: &mut [u16; MOST_COLUMNS])
-    requires { count ≤ 512 }
-    ensures { firsts.new ≡ puts count (λ c. get_or kept.now c 0) firsts.old }
-{
-    let mut c = 0;
-    while c < count {
-        firsts[c] = kept[c];
-        c += 1;
-    }
-}
-
-// The different ones of the packed columns 0 to cands - 1, in rising order, and each column's number among them; 513 where there are more
+// The different ones of the packed columns 0 to cands - 1, in rising order, and each column's number among them; refused where there are more
 // than 512.
 pub fn number(
     cands: usize,
     size: usize,
-    zero: &[u64; 1024],
-    one: &[u64; 1024],
+    planes: &Planes,
     firsts: &mut [u16; MOST_COLUMNS],
     numbers: &mut [u16; 1024],
-) -> usize
+) -> Result<usize, Refusal>
     requires { (cands ≤ 1024) × (1 ≤ size) × (cands * size ≤ 1024) }
     ensures value { result
-        ≡ cond
-        (leb (length (firsts_of (same_words zero.now one.now size) cands)) 512)
-        (length (firsts_of (same_words zero.now one.now size) cands))
-        513 }
-    ensures firsts_after { result ≤ 512 → firsts.new ≡ sets firsts.old 0 (firsts_of (same_words zero.now one.now size) cands) }
-    ensures numbers_after { result ≤ 512
-        → numbers.new
-        ≡ puts
+        ≡ narrow_or (length (firsts_of (same_words planes.now.zero planes.now.one size) cands)) (length (firsts_of (same_words planes.now.zero planes.now.one size) cands)) }
+    ensures firsts_after { OnOk result (firsts.new ≡ sets firsts.old 0 (firsts_of (same_words planes.now.zero planes.now.one size) cands)) }
+    ensures numbers_after { OnOk result (numbers.new ≡ puts
         cands
-        (λ q. index_in (same_words zero.now one.now size) (firsts_of (same_words zero.now one.now size) q) q)
-        numbers.old }
+        (λ q. index_in (same_words planes.now.zero planes.now.one size) (firsts_of (same_words planes.now.zero planes.now.one size) q) q)
+        numbers.old) }
 {
     let mut keys = [0u32; MOST_COLUMNS];
     let mut kept = [0u16; MOST_COLUMNS];
     let mut count = 0;
-    let mut q = 0;
-    while q < cands {
-        let k = key(zero, one, size, q);
-        let c = index_of(zero, one, size, &keys, &kept, count, q, k);
+    for q in 0..cands {
+        let k = key(planes, size, q);
+        let c = index_of(planes, size, &keys, &kept, count, q, k);
         if c == MOST_COLUMNS {
-            return 513;
+            return Err(Refusal::TooWide);
         }
         count = keep(c, count, q as u16, k, &mut keys, &mut kept);
         numbers[q] = c as u16;
-        q += 1;
     }
-    copy(&kept, count, firsts);
-    count
+    firsts[..count].copy_from_slice(&kept[..count]);
+    Ok(count)
 }

@@ -1,18 +1,20 @@
 // One height further down: the columns below, their cliques, the cliques' products and the nodes above them.
-ghost use Rattle.std.specs.Prelude.{◌≡◌, true, false, cond, ℕ, ◌≤◌, ◌<◌, ◌+◌, ◌*◌, leb, length, get_or};
+ghost use Rattle.std.specs.Prelude.{◌≡◌, true, false, cond, ℕ, ◌≤◌, ◌<◌, ◌+◌, ◌*◌, length, get_or, OnOk};
 ghost use Rattle.std.proofs.lemmas.List.Edits.{sets};
 ghost use Rattle.laws.specs.Lists.{puts};
 ghost use Rattle.reduction_spec.specs.Cover.{is_in, cover};
 ghost use Rattle.reduction_spec.specs.Diagram.{node_words};
-ghost use Rattle.reduction.specs.Lowering.{clique_firsts, clique_of, candidate_count, firsts_below, cliques_below, number_below, product_below, nodes_over};
+ghost use Rattle.reduction.specs.Lowering.{narrow_or, first_node, clique_firsts, clique_of, candidate_count, firsts_below, cliques_below, number_below, product_below, nodes_over};
 
 use crate::cover::cover;
 use crate::distinct::number;
 use crate::links::link_columns;
 use crate::merging::{add_columns, apart, children, renumber};
-use crate::node_words::{input_nodes, output_nodes, top_values};
+use crate::node_words::{store_nodes, top_values};
 use crate::packed::candidates;
+use crate::state::{Height, Planes};
 use reduction_spec::{Links, MOST_COLUMNS, NodeWords};
+use refusals::Refusal;
 
 // The clique of each of w columns. Where none are linked each is a clique of its own, and the cover would only say so.
 fn own(linked: bool, w: usize, link: &Links, owner: &mut [u16; MOST_COLUMNS])
@@ -31,18 +33,17 @@ fn own(linked: bool, w: usize, link: &Links, owner: &mut [u16; MOST_COLUMNS])
 fn group(
     w: usize,
     size: usize,
-    zero: &[u64; 1024],
-    one: &[u64; 1024],
+    planes: &Planes,
     firsts: &[u16; MOST_COLUMNS],
     link: &mut Links,
     nums: &mut [u16; MOST_COLUMNS],
 ) -> usize
     requires { (w ≤ 512) × (1 ≤ size) × (length link.old ≡ 262144) × ((c : ℕ) → c < w → get_or firsts.now c 0 * size + size ≤ 1024) }
-    ensures value { result ≡ length (clique_firsts size zero.now one.now w firsts.now) }
-    ensures nums_after { nums.new ≡ puts w (clique_of size zero.now one.now w firsts.now) nums.old }
+    ensures value { result ≡ length (clique_firsts size planes.now.zero planes.now.one w firsts.now) }
+    ensures nums_after { nums.new ≡ puts w (clique_of size planes.now.zero planes.now.one w firsts.now) nums.old }
     ensures link_len { length link.new ≡ 262144 }
 {
-    let linked = link_columns(w, size, zero, one, firsts, link);
+    let linked = link_columns(w, size, planes, firsts, link);
     let mut owner = [0u16; MOST_COLUMNS];
     own(linked, w, link, &mut owner);
     renumber(w, &owner, nums)
@@ -59,148 +60,75 @@ fn candidate_count(input: bool, w: usize) -> usize
     w
 }
 
-// The planes of w columns become those of the columns below after the merge there; answers how many there are, or 513 where more than 512
+// The planes of the columns above become those of the columns below after the merge there; answers how many there are, unless more than 512
 // stand below before the merge. below gets the number of each candidate.
 fn lower(
-    input: bool,
-    a: usize,
-    b: usize,
-    size: usize,
-    w: usize,
-    zero: &mut [u64; 1024],
-    one: &mut [u64; 1024],
+    here: &Height,
+    planes: &mut Planes,
     link: &mut Links,
     below: &mut [u16; 1024],
-) -> usize
-    requires { (b ≤ 8) × (w ≤ 512) × (1 ≤ size) × (w * 2 * size ≤ 1024) × (length link.old ≡ 262144) }
+) -> Result<usize, Refusal>
+    requires { (here.now.b ≤ 8) × (here.now.w ≤ 512) × (1 ≤ here.now.size) × (here.now.w * 2 * here.now.size ≤ 1024) × (length link.old ≡ 262144) }
     ensures value { result
-        ≡ cond (leb (length (firsts_below input a b size w zero.old one.old)) 512)
-        (length (cliques_below input a b size w zero.old one.old)) 513 }
-    ensures zero_after { result ≤ 512 → zero.new ≡ product_below input a b size w zero.old one.old zero.old zero.old }
-    ensures one_after { result ≤ 512 → one.new ≡ product_below input a b size w zero.old one.old one.old one.old }
-    ensures below_after { result ≤ 512
-        → below.new
-        ≡ puts (candidate_count input a b size w zero.old one.old)
-        (number_below input a b size w zero.old one.old) below.old }
-    ensures link_len { result ≤ 512 → length link.new ≡ 262144 }
+        ≡ narrow_or (length (firsts_below here.now.input here.now.a here.now.b here.now.size here.now.w planes.old.zero planes.old.one)) (length (cliques_below here.now.input here.now.a here.now.b here.now.size here.now.w planes.old.zero planes.old.one)) }
+    ensures zero_after { OnOk result (planes.new.zero ≡ product_below here.now.input here.now.a here.now.b here.now.size here.now.w planes.old.zero planes.old.one planes.old.zero planes.old.zero) }
+    ensures one_after { OnOk result (planes.new.one ≡ product_below here.now.input here.now.a here.now.b here.now.size here.now.w planes.old.zero planes.old.one planes.old.one planes.old.one) }
+    ensures below_after { OnOk result (below.new ≡ puts (candidate_count here.now.input here.now.a here.now.b here.now.size here.now.w planes.old.zero planes.old.one)
+        (number_below here.now.input here.now.a here.now.b here.now.size here.now.w planes.old.zero planes.old.one) below.old) }
+    ensures link_len { OnOk result (length link.new ≡ 262144) }
 {
-    let mut zs = [0u64; 1024];
-    candidates(input, a, b, size, w, zero, &mut zs);
-    let mut os = [0u64; 1024];
-    candidates(input, a, b, size, w, one, &mut os);
-    let cands = candidate_count(input, w);
+    let mut split = Planes {
+        zero: [0; 1024],
+        one: [0; 1024],
+    };
+    candidates(here, &planes.zero, &mut split.zero);
+    candidates(here, &planes.one, &mut split.one);
+    let cands = candidate_count(here.input, here.w);
     let mut firsts = [0u16; MOST_COLUMNS];
     let mut numbers = [0u16; 1024];
-    let count = number(cands, size, &zs, &os, &mut firsts, &mut numbers);
-    if MOST_COLUMNS < count {
-        return 513;
-    }
+    let count = number(cands, here.size, &split, &mut firsts, &mut numbers)?;
     let mut nums = [0u16; MOST_COLUMNS];
-    let cliques = group(count, size, &zs, &os, &firsts, link, &mut nums);
-    add_columns(count, size, &firsts, &nums, &zs, zero);
-    add_columns(count, size, &firsts, &nums, &os, one);
+    let cliques = group(count, here.size, &split, &firsts, link, &mut nums);
+    add_columns(
+        count,
+        here.size,
+        &firsts,
+        &nums,
+        &split.zero,
+        &mut planes.zero,
+    );
+    add_columns(
+        count,
+        here.size,
+        &firsts,
+        &nums,
+        &split.one,
+        &mut planes.one,
+    );
     children(cands, &numbers, &nums, below);
-    cliques
+    Ok(cliques)
 }
 
-// The same below an input; the words of the nodes of the columns above are stored too.
-fn lower_input(
-    a: usize,
-    b: usize,
-    size: usize,
-    w: usize,
-    at: usize,
-    height: u16,
-    base: usize,
-    zero: &mut [u64; 1024],
-    one: &mut [u64; 1024],
+// One height further down: the same, and the words of the nodes of the columns above are stored.
+pub fn step(
+    here: &Height,
+    planes: &mut Planes,
     link: &mut Links,
     words: &mut NodeWords,
-) -> usize
-    requires { (b ≤ 8) × (w ≤ 512) × (1 ≤ size) × (w * 2 * size ≤ 1024) × (length link.old ≡ 262144) × (at + w ≤ 10240) × (base ≤ 20000) }
+) -> Result<usize, Refusal>
+    requires { (here.now.b ≤ 8) × (here.now.w ≤ 512) × (1 ≤ here.now.size) × (here.now.w * 2 * here.now.size ≤ 1024) × (length link.old ≡ 262144) × (here.now.a ≤ 12) × (here.now.at + here.now.w ≤ 10240) }
     ensures value { result
-        ≡ cond (leb (length (firsts_below true a b size w zero.old one.old)) 512)
-        (length (cliques_below true a b size w zero.old one.old)) 513 }
-    ensures zero_after { result ≤ 512 → zero.new ≡ product_below true a b size w zero.old one.old zero.old zero.old }
-    ensures one_after { result ≤ 512 → one.new ≡ product_below true a b size w zero.old one.old one.old one.old }
-    ensures words_after { result ≤ 512
-        → words.new
-        ≡ sets words.old (at * 3) (node_words (nodes_over true a b size w zero.old one.old height base)) }
-    ensures link_len { result ≤ 512 → length link.new ≡ 262144 }
-{
-    let mut below = [0u16; 1024];
-    let cliques = lower(true, a, b, size, w, zero, one, link, &mut below);
-    if MOST_COLUMNS < cliques {
-        return 513;
-    }
-    input_nodes(w, at, height, base, &below, words);
-    cliques
-}
-
-// The same below an output.
-fn lower_output(
-    a: usize,
-    b: usize,
-    size: usize,
-    w: usize,
-    at: usize,
-    height: u16,
-    base: usize,
-    zero: &mut [u64; 1024],
-    one: &mut [u64; 1024],
-    link: &mut Links,
-    words: &mut NodeWords,
-) -> usize
-    requires { (b < 8) × (w ≤ 512) × (1 ≤ size) × (w * 2 * size ≤ 1024) × (length link.old ≡ 262144) × (at + w ≤ 10240) × (base ≤ 20000) }
-    ensures value { result
-        ≡ cond (leb (length (firsts_below false a b size w zero.old one.old)) 512)
-        (length (cliques_below false a b size w zero.old one.old)) 513 }
-    ensures zero_after { result ≤ 512 → zero.new ≡ product_below false a b size w zero.old one.old zero.old zero.old }
-    ensures one_after { result ≤ 512 → one.new ≡ product_below false a b size w zero.old one.old one.old one.old }
-    ensures words_after { result ≤ 512
-        → words.new
-        ≡ sets words.old (at * 3) (node_words (nodes_over false a b size w zero.old one.old height base)) }
-    ensures link_len { result ≤ 512 → length link.new ≡ 262144 }
+        ≡ narrow_or (length (firsts_below here.now.input here.now.a here.now.b here.now.size here.now.w planes.old.zero planes.old.one)) (length (cliques_below here.now.input here.now.a here.now.b here.now.size here.now.w planes.old.zero planes.old.one)) }
+    ensures zero_after { OnOk result (planes.new.zero ≡ product_below here.now.input here.now.a here.now.b here.now.size here.now.w planes.old.zero planes.old.one planes.old.zero planes.old.zero) }
+    ensures one_after { OnOk result (planes.new.one ≡ product_below here.now.input here.now.a here.now.b here.now.size here.now.w planes.old.zero planes.old.one planes.old.one planes.old.one) }
+    ensures words_after { OnOk result (words.new ≡ sets words.old (here.now.at * 3)
+        (node_words (nodes_over here.now.input here.now.a here.now.b here.now.size here.now.w planes.old.zero planes.old.one (here.now.a + here.now.b + 1) (first_node (here.now.a + here.now.b) (here.now.at + here.now.w))))) }
+    ensures link_len { OnOk result (length link.new ≡ 262144) }
 {
     let mut values = [0u8; MOST_COLUMNS];
-    top_values(w, size, b, zero, one, &mut values);
+    top_values(here.w, here.size, here.b, planes, &mut values);
     let mut below = [0u16; 1024];
-    let cliques = lower(false, a, b, size, w, zero, one, link, &mut below);
-    if MOST_COLUMNS < cliques {
-        return 513;
-    }
-    output_nodes(w, at, height, base, &values, &below, words);
-    cliques
-}
-
-// One height further down: below an input or an output.
-pub fn step(
-    input: bool,
-    a: usize,
-    b: usize,
-    size: usize,
-    w: usize,
-    at: usize,
-    height: u16,
-    base: usize,
-    zero: &mut [u64; 1024],
-    one: &mut [u64; 1024],
-    link: &mut Links,
-    words: &mut NodeWords,
-) -> usize
-    requires { (b ≤ 8) × (input ≡ false → b < 8) × (w ≤ 512) × (1 ≤ size) × (w * 2 * size ≤ 1024) × (length link.old ≡ 262144) × (at + w ≤ 10240) × (base ≤ 20000) }
-    ensures value { result
-        ≡ cond (leb (length (firsts_below input a b size w zero.old one.old)) 512)
-        (length (cliques_below input a b size w zero.old one.old)) 513 }
-    ensures zero_after { result ≤ 512 → zero.new ≡ product_below input a b size w zero.old one.old zero.old zero.old }
-    ensures one_after { result ≤ 512 → one.new ≡ product_below input a b size w zero.old one.old one.old one.old }
-    ensures words_after { result ≤ 512
-        → words.new
-        ≡ sets words.old (at * 3) (node_words (nodes_over input a b size w zero.old one.old height base)) }
-    ensures link_len { result ≤ 512 → length link.new ≡ 262144 }
-{
-    if input {
-        return lower_input(a, b, size, w, at, height, base, zero, one, link, words);
-    }
-    lower_output(a, b, size, w, at, height, base, zero, one, link, words)
+    let cliques = lower(here, planes, link, &mut below)?;
+    store_nodes(here, &values, &below, words);
+    Ok(cliques)
 }

@@ -9,8 +9,15 @@ ghost use Rattle.reduction.specs.Distinct.{agree_words, linked_words};
 ghost use Rattle.reduction.specs.ColumnHashes.{Inside};
 ghost use Rattle.reduction.specs.FirstBytes.{byte_of, byte_at, Short, Spread, Flags, other, agree_to, narrowed, confirmed};
 
-use numbers::wide16;
+use crate::state::Planes;
 use reduction_spec::{Links, MOST_COLUMNS};
+
+// The bytes of the first words of the columns' planes: byte x of column c stands at x * 512 + c.
+#[derive(Drop)]
+struct LeadingBytes {
+    zero: [u8; 4096],
+    one: [u8; 4096],
+}
 
 // Byte x of a word.
 fn byte_of(word: u64, x: usize) -> u8
@@ -34,10 +41,8 @@ fn spread_byte(
     ensures short { Short w words.now size firsts.now }
 {
     let from = x * 512;
-    let mut c = 0;
-    while c < w {
-        bytes[from + c] = byte_of(words[wide16(firsts[c]) * size], x);
-        c += 1;
+    for c in 0..w {
+        bytes[from + c] = byte_of(words[usize::from(firsts[c]) * size], x);
     }
 }
 
@@ -52,10 +57,8 @@ fn spread(
     requires { (w ≤ 512) × (1 ≤ size) × (length bytes.old ≡ 4096) × Inside w size firsts.now }
     ensures { Spread w words.now size firsts.now 8 bytes.new }
 {
-    let mut x = 0;
-    while x < 8 {
+    for x in 0..8 {
         spread_byte(w, size, words, firsts, x, bytes);
-        x += 1;
     }
 }
 
@@ -63,10 +66,7 @@ fn spread(
 fn none(t: u8) -> u8
     ensures { result ≡ flag (eqb t 0) }
 {
-    if t == 0 {
-        return 1;
-    }
-    0
+    u8::from(t == 0)
 }
 
 // The first w flags of a row are left where the bytes z and y agree with those from place from on. Answers the flags that are left, as bits
@@ -76,75 +76,71 @@ fn narrow(
     y: u8,
     from: usize,
     w: usize,
-    zs: &[u8; 4096],
-    os: &[u8; 4096],
+    bytes: &LeadingBytes,
     row: &mut [u8; MOST_COLUMNS],
 ) -> u8
     requires { (w ≤ 512) × (from ≤ 3584) }
-    ensures value { result ≡ marks 0 (narrowed z y from zs.now os.now row.old) w }
-    ensures row_after { row.new ≡ puts w (narrowed z y from zs.now os.now row.old) row.old }
+    ensures value { result ≡ marks 0 (narrowed z y from bytes.now.zero bytes.now.one row.old) w }
+    ensures row_after { row.new ≡ puts w (narrowed z y from bytes.now.zero bytes.now.one row.old) row.old }
 {
     let mut left = 0u8;
-    let mut d = 0;
-    while d < w {
-        let flag = row[d] & none((z & os[from + d]) | (y & zs[from + d]));
+    for d in 0..w {
+        let flag = row[d] & none((z & bytes.one[from + d]) | (y & bytes.zero[from + d]));
         row[d] = flag;
         left = left | flag;
-        d += 1;
     }
     left
 }
 
 // Narrows the row of column c by the eight bytes, or by fewer where none is left before. Answers whether some may be left.
-fn narrow_all(
-    c: usize,
-    w: usize,
-    zs: &[u8; 4096],
-    os: &[u8; 4096],
-    row: &mut [u8; MOST_COLUMNS],
-) -> bool
+fn narrow_all(c: usize, w: usize, bytes: &LeadingBytes, row: &mut [u8; MOST_COLUMNS]) -> bool
     requires { (c < w) × (w ≤ 512) × Flags w (other c) row.old }
-    ensures flags { Flags w (agree_to zs.now os.now c 8) row.new }
-    ensures none_left { result ≡ false → any w (agree_to zs.now os.now c 8) ≡ false }
+    ensures flags { Flags w (agree_to bytes.now.zero bytes.now.one c 8) row.new }
+    ensures none_left { result ≡ false → any w (agree_to bytes.now.zero bytes.now.one c 8) ≡ false }
 {
-    let mut x = 0;
-    while x < 8 {
+    for x in 0..8 {
         let from = x * 512;
-        let left = narrow(zs[from + c], os[from + c], from, w, zs, os, row);
+        let left = narrow(
+            bytes.zero[from + c],
+            bytes.one[from + c],
+            from,
+            w,
+            bytes,
+            row,
+        );
         if left == 0 {
             return false;
         }
-        x += 1;
     }
     true
 }
 
 // Whether the packed columns p and q agree.
-fn agree_at(zero: &[u64; 1024], one: &[u64; 1024], size: usize, p: usize, q: usize) -> bool
+fn agree_at(planes: &Planes, size: usize, p: usize, q: usize) -> bool
     requires { (p * size + size ≤ 1024) × (q * size + size ≤ 1024) }
-    ensures { result ≡ agree_words zero.now one.now size p q }
+    ensures { result ≡ agree_words planes.now.zero planes.now.one size p q }
 {
     let a = p * size;
     let b = q * size;
-    let mut i = 0;
-    while i < size {
-        if (zero[a + i] & one[b + i]) | (one[a + i] & zero[b + i]) != 0 {
+    for i in 0..size {
+        if (planes.zero[a + i] & planes.one[b + i]) | (planes.one[a + i] & planes.zero[b + i])
+            != 0
+        {
             return false;
         }
-        i += 1;
     }
     true
 }
 
 // The flag f where the packed columns p and q agree.
-fn confirm(zero: &[u64; 1024], one: &[u64; 1024], size: usize, f: u8, p: usize, q: usize) -> u8
+fn confirm(planes: &Planes, size: usize, f: u8, p: usize, q: usize) -> u8
     requires { (p * size + size ≤ 1024) × (q * size + size ≤ 1024) }
-    ensures { result ≡ confirmed zero.now one.now size f p q }
+    ensures { result ≡ confirmed planes.now.zero planes.now.one size f p q }
 {
     if f == 0 {
         return 0;
     }
-    if agree_at(zero, one, size, p, q) {
+    if agree_at(planes, size, p, q) {
         return 1;
     }
     0
@@ -155,8 +151,7 @@ fn confirm_row(
     c: usize,
     w: usize,
     size: usize,
-    zero: &[u64; 1024],
-    one: &[u64; 1024],
+    planes: &Planes,
     firsts: &[u16; MOST_COLUMNS],
     row: &mut [u8; MOST_COLUMNS],
 )
@@ -164,14 +159,12 @@ fn confirm_row(
     ensures { row.new
         ≡ puts
         w
-        (λ d. confirmed zero.now one.now size (get_or row.old d 0) (get_or firsts.now c 0) (get_or firsts.now d 0))
+        (λ d. confirmed planes.now.zero planes.now.one size (get_or row.old d 0) (get_or firsts.now c 0) (get_or firsts.now d 0))
         row.old }
 {
-    let p = wide16(firsts[c]);
-    let mut d = 0;
-    while d < w {
-        row[d] = confirm(zero, one, size, row[d], p, wide16(firsts[d]));
-        d += 1;
+    let p = usize::from(firsts[c]);
+    for d in 0..w {
+        row[d] = confirm(planes, size, row[d], p, usize::from(firsts[d]));
     }
 }
 
@@ -180,10 +173,8 @@ fn raise(w: usize, row: &mut [u8; MOST_COLUMNS])
     requires { w ≤ 512 }
     ensures { row.new ≡ puts w (λ _. 1) row.old }
 {
-    let mut d = 0;
-    while d < w {
+    for d in 0..w {
         row[d] = 1;
-        d += 1;
     }
 }
 
@@ -201,24 +192,22 @@ fn fill_row(
     c: usize,
     w: usize,
     size: usize,
-    zero: &[u64; 1024],
-    one: &[u64; 1024],
+    planes: &Planes,
     firsts: &[u16; MOST_COLUMNS],
-    zs: &[u8; 4096],
-    os: &[u8; 4096],
+    bytes: &LeadingBytes,
     row: &mut [u8; MOST_COLUMNS],
 )
     requires in_range { (c < w) × (w ≤ 512) × (1 ≤ size) × (length row.old ≡ 512) × Inside w size firsts.now }
-    requires spread { Spread w zero.now size firsts.now 8 zs.now × Spread w one.now size firsts.now 8 os.now }
-    ensures { Flags w (linked_words zero.now one.now size firsts.now c) row.new }
+    requires spread { Spread w planes.now.zero size firsts.now 8 bytes.now.zero × Spread w planes.now.one size firsts.now 8 bytes.now.one }
+    ensures { Flags w (linked_words planes.now.zero planes.now.one size firsts.now c) row.new }
 {
     start_row(c, w, row);
-    let left = narrow_all(c, w, zs, os, row);
+    let left = narrow_all(c, w, bytes, row);
     if size == 1 {
         return;
     }
     if left {
-        confirm_row(c, w, size, zero, one, firsts, row);
+        confirm_row(c, w, size, planes, firsts, row);
         return;
     }
 }
@@ -230,11 +219,9 @@ fn store_row(from: usize, w: usize, row: &[u8; MOST_COLUMNS], link: &mut Links) 
     ensures link_after { link.new ≡ puts_at from w (λ d. get_or row.now d 0) link.old }
 {
     let mut left = 0u8;
-    let mut d = 0;
-    while d < w {
+    for d in 0..w {
         left = left | row[d];
         link[from + d] = row[d];
-        d += 1;
     }
     left
 }
@@ -244,21 +231,19 @@ fn link_row(
     c: usize,
     w: usize,
     size: usize,
-    zero: &[u64; 1024],
-    one: &[u64; 1024],
+    planes: &Planes,
     firsts: &[u16; MOST_COLUMNS],
-    zs: &[u8; 4096],
-    os: &[u8; 4096],
+    bytes: &LeadingBytes,
     link: &mut Links,
 ) -> bool
     requires in_range { (c < w) × (w ≤ 512) × (1 ≤ size) × Inside w size firsts.now }
-    requires spread { Spread w zero.now size firsts.now 8 zs.now × Spread w one.now size firsts.now 8 os.now }
-    ensures value { result ≡ any w (linked_words zero.now one.now size firsts.now c) }
+    requires spread { Spread w planes.now.zero size firsts.now 8 bytes.now.zero × Spread w planes.now.one size firsts.now 8 bytes.now.one }
+    ensures value { result ≡ any w (linked_words planes.now.zero planes.now.one size firsts.now c) }
     ensures link_after { link.new
-        ≡ puts_at (c * w) w (λ d. flag (linked_words zero.now one.now size firsts.now c d)) link.old }
+        ≡ puts_at (c * w) w (λ d. flag (linked_words planes.now.zero planes.now.one size firsts.now c d)) link.old }
 {
     let mut row = [0u8; MOST_COLUMNS];
-    fill_row(c, w, size, zero, one, firsts, zs, os, &mut row);
+    fill_row(c, w, size, planes, firsts, bytes, &mut row);
     store_row(c * w, w, &row, link) == 1
 }
 
@@ -266,27 +251,23 @@ fn link_row(
 fn link_rows(
     w: usize,
     size: usize,
-    zero: &[u64; 1024],
-    one: &[u64; 1024],
+    planes: &Planes,
     firsts: &[u16; MOST_COLUMNS],
-    zs: &[u8; 4096],
-    os: &[u8; 4096],
+    bytes: &LeadingBytes,
     link: &mut Links,
 ) -> bool
     requires in_range { (w ≤ 512) × (1 ≤ size) × Inside w size firsts.now }
-    requires spread { Spread w zero.now size firsts.now 8 zs.now × Spread w one.now size firsts.now 8 os.now }
-    ensures value { result ≡ any w (λ c. any w (linked_words zero.now one.now size firsts.now c)) }
+    requires spread { Spread w planes.now.zero size firsts.now 8 bytes.now.zero × Spread w planes.now.one size firsts.now 8 bytes.now.one }
+    ensures value { result ≡ any w (λ c. any w (linked_words planes.now.zero planes.now.one size firsts.now c)) }
     ensures link_after { link.new
         ≡ sets
         link.old
         0
-        (rect w w (λ c d. flag (linked_words zero.now one.now size firsts.now c d))) }
+        (rect w w (λ c d. flag (linked_words planes.now.zero planes.now.one size firsts.now c d))) }
 {
     let mut found = false;
-    let mut c = 0;
-    while c < w {
-        found = found | link_row(c, w, size, zero, one, firsts, zs, os, link);
-        c += 1;
+    for c in 0..w {
+        found = found | link_row(c, w, size, planes, firsts, bytes, link);
     }
     found
 }
@@ -295,22 +276,23 @@ fn link_rows(
 pub fn link_columns(
     w: usize,
     size: usize,
-    zero: &[u64; 1024],
-    one: &[u64; 1024],
+    planes: &Planes,
     firsts: &[u16; MOST_COLUMNS],
     link: &mut Links,
 ) -> bool
     requires { (w ≤ 512) × (1 ≤ size) × ((c : ℕ) → c < w → get_or firsts.now c 0 * size + size ≤ 1024) }
-    ensures value { result ≡ any w (λ c. any w (linked_words zero.now one.now size firsts.now c)) }
+    ensures value { result ≡ any w (λ c. any w (linked_words planes.now.zero planes.now.one size firsts.now c)) }
     ensures link_after { link.new
         ≡ sets
         link.old
         0
-        (rect w w (λ c d. flag (linked_words zero.now one.now size firsts.now c d))) }
+        (rect w w (λ c d. flag (linked_words planes.now.zero planes.now.one size firsts.now c d))) }
 {
-    let mut zs = [0u8; 4096];
-    spread(w, size, zero, firsts, &mut zs);
-    let mut os = [0u8; 4096];
-    spread(w, size, one, firsts, &mut os);
-    link_rows(w, size, zero, one, firsts, &zs, &os, link)
+    let mut bytes = LeadingBytes {
+        zero: [0; 4096],
+        one: [0; 4096],
+    };
+    spread(w, size, &planes.zero, firsts, &mut bytes.zero);
+    spread(w, size, &planes.one, firsts, &mut bytes.one);
+    link_rows(w, size, planes, firsts, &bytes, link)
 }

@@ -6,8 +6,6 @@ ghost use Rattle.reduction_spec.specs.Numbering.{index_in, firsts_of};
 ghost use Rattle.reduction.specs.Distinct.{same_owner};
 ghost use Rattle.reduction.specs.Packed.{added_columns};
 
-use crate::casts::narrow16;
-use numbers::wide16;
 use reduction_spec::MOST_COLUMNS;
 
 // owner 0, 1, 2, ..: each column a clique of its own.
@@ -15,10 +13,8 @@ pub fn apart(w: usize, owner: &mut [u16; MOST_COLUMNS])
     requires { w ≤ 512 }
     ensures { owner.new ≡ puts w (λ c. c) owner.old }
 {
-    let mut c = 0;
-    while c < w {
-        owner[c] = narrow16(c);
-        c += 1;
+    for c in 0..w {
+        owner[c] = c as u16;
     }
 }
 
@@ -30,7 +26,7 @@ fn number_of(s: u16, count: usize) -> usize
     if s == 0 {
         return count;
     }
-    wide16(s) - 1
+    usize::from(s) - 1
 }
 
 // How many cliques there are after one whose mark is s.
@@ -55,15 +51,13 @@ pub fn renumber(w: usize, owner: &[u16; MOST_COLUMNS], nums: &mut [u16; MOST_COL
 {
     let mut seen = [0u16; MOST_COLUMNS];
     let mut count = 0;
-    let mut c = 0;
-    while c < w {
-        let g = wide16(owner[c]);
+    for c in 0..w {
+        let g = usize::from(owner[c]);
         let s = seen[g];
         let i = number_of(s, count);
-        seen[g] = narrow16(i + 1);
-        nums[c] = narrow16(i);
+        seen[g] = (i + 1) as u16;
+        nums[c] = i as u16;
         count = counted(s, count);
-        c += 1;
     }
     count
 }
@@ -71,10 +65,8 @@ pub fn renumber(w: usize, owner: &[u16; MOST_COLUMNS], nums: &mut [u16; MOST_COL
 fn clear(plane: &mut [u64; 1024])
     ensures { plane.new ≡ puts 1024 (λ i. 0) plane.old }
 {
-    let mut i = 0;
-    while i < 1024 {
+    for i in 0..1024 {
         plane[i] = 0;
-        i += 1;
     }
 }
 
@@ -84,10 +76,8 @@ fn add_column(size: usize, first: usize, number: usize, from: &[u64; 1024], to: 
     ensures { to.new
         ≡ puts_at number size (λ i. bit_or (get_or to.old (number + i) 0) (get_or from.now (first + i) 0)) to.old }
 {
-    let mut i = 0;
-    while i < size {
+    for i in 0..size {
         to[number + i] = to[number + i] | from[first + i];
-        i += 1;
     }
 }
 
@@ -106,16 +96,14 @@ pub fn add_columns(
         ≡ added_columns size firsts.now nums.now from.now w (puts 1024 (λ i. 0) to.old) }
 {
     clear(to);
-    let mut c = 0;
-    while c < w {
+    for c in 0..w {
         add_column(
             size,
-            wide16(firsts[c]) * size,
-            wide16(nums[c]) * size,
+            usize::from(firsts[c]) * size,
+            usize::from(nums[c]) * size,
             from,
             to,
         );
-        c += 1;
     }
 }
 
@@ -129,9 +117,7 @@ pub fn children(
     requires { (cands ≤ 1024) × ((q : ℕ) → q < cands → get_or numbers.now q 0 < 512) }
     ensures { below.new ≡ puts cands (λ q. get_or nums.now (get_or numbers.now q 0) 0) below.old }
 {
-    let mut q = 0;
-    while q < cands {
-        below[q] = nums[wide16(numbers[q])];
-        q += 1;
+    for q in 0..cands {
+        below[q] = nums[usize::from(numbers[q])];
     }
 }

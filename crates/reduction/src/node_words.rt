@@ -1,17 +1,17 @@
-// The words of the nodes of one height, and copies of words.
+// The words of the nodes of one height.
 ghost use Rattle.std.specs.Prelude.{◌≡◌, cond, [], ◌∷◌, ℕ, ◌≤◌, ◌<◌, ◌+◌, ◌*◌, eqb, get_or};
 ghost use Rattle.std.proofs.lemmas.List.Edits.{sets};
 ghost use Rattle.laws.specs.Lists.{tab, puts};
 ghost use Rattle.reduction.specs.Packed.{value_in};
-ghost use Rattle.reduction_spec.specs.Diagram.{node, node_words};
+ghost use Rattle.reduction.specs.Lowering.{first_node, node_over};
+ghost use Rattle.reduction_spec.specs.Diagram.{node_words};
 
-use crate::casts::narrow16;
-use numbers::wide16;
-use reduction_spec::{MOST_COLUMNS, NodeWords, Widths};
+use crate::state::{Height, Planes};
+use reduction_spec::{MOST_COLUMNS, Node, NodeWords};
 
 // The value of line b at the first place of a column whose first words are z and o.
 fn value_in(z: u64, o: u64, b: usize) -> u8
-    requires { b < 8 }
+    requires { b ≤ 8 }
     ensures { result ≡ value_in z o b }
 {
     if (z >> b) % 2 == 1 {
@@ -24,67 +24,25 @@ fn value_in(z: u64, o: u64, b: usize) -> u8
 }
 
 // The value of line b at the first place of each of w columns of size words.
-pub fn top_values(
-    w: usize,
-    size: usize,
-    b: usize,
-    zero: &[u64; 1024],
-    one: &[u64; 1024],
-    values: &mut [u8; MOST_COLUMNS],
-)
-    requires { (w ≤ 512) × (1 ≤ size) × (w * size ≤ 1024) × (b < 8) }
+pub fn top_values(w: usize, size: usize, b: usize, planes: &Planes, values: &mut [u8; MOST_COLUMNS])
+    requires { (w ≤ 512) × (1 ≤ size) × (w * size ≤ 1024) × (b ≤ 8) }
     ensures { values.new
-        ≡ puts w (λ c. value_in (get_or zero.now (c * size) 0) (get_or one.now (c * size) 0) b) values.old }
+        ≡ puts w (λ c. value_in (get_or planes.now.zero (c * size) 0) (get_or planes.now.one (c * size) 0) b) values.old }
 {
-    let mut c = 0;
-    while c < w {
-        values[c] = value_in(zero[c * size], one[c * size], b);
-        c += 1;
+    for c in 0..w {
+        values[c] = value_in(planes.zero[c * size], planes.one[c * size], b);
     }
 }
 
 // Node i of the table, counted from 0.
-fn store_node(i: usize, height: u16, low: u16, high: u16, words: &mut NodeWords)
+fn store_node(i: usize, node: Node, words: &mut NodeWords)
     requires { i < 10240 }
-    ensures { words.new ≡ sets words.old (i * 3) (height ∷ low ∷ high ∷ []) }
+    ensures { words.new ≡ sets words.old (i * 3) (node.height ∷ node.low ∷ node.high ∷ []) }
 {
     let k = i * 3;
-    words[k] = height;
-    words[k + 1] = low;
-    words[k + 2] = high;
-}
-
-// The node of number x below, where base is the first.
-fn child(base: usize, x: u16) -> u16
-    requires { (base ≤ 20000) × (x < 512) }
-    ensures { result ≡ base + x }
-{
-    narrow16(base + wide16(x))
-}
-
-// The words of the nodes of w columns at an input, from node number at on (counted from 0); base is the number of the first node below.
-pub fn input_nodes(
-    w: usize,
-    at: usize,
-    height: u16,
-    base: usize,
-    below: &[u16; 1024],
-    words: &mut NodeWords,
-)
-    requires { (w ≤ 512) × (at + w ≤ 10240) × (base ≤ 20000) × ((q : ℕ) → q < w * 2 → get_or below.now q 0 < 512) }
-    ensures { words.new
-        ≡ sets words.old (at * 3)
-        (node_words
-        (tab w
-        (λ c. node height (base + get_or below.now (c * 2) 0) (base + get_or below.now (c * 2 + 1) 0)))) }
-{
-    let mut c = 0;
-    while c < w {
-        let low = child(base, below[c * 2]);
-        let high = child(base, below[c * 2 + 1]);
-        store_node(at + c, height, low, high, words);
-        c += 1;
-    }
+    words[k] = node.height;
+    words[k + 1] = node.low;
+    words[k + 2] = node.high;
 }
 
 // The child for a value: 0 where the output's value v is the other one.
@@ -97,54 +55,63 @@ fn allowed(v: u8, other: u8, next: u16) -> u16
     next
 }
 
-// The same at an output with these values: a forbidden value's child is 0.
-pub fn output_nodes(
-    w: usize,
-    at: usize,
+// The node of column c: at an input its children are the candidates c * 2 and c * 2 + 1, at an output the candidate c, and 0 for a
+// forbidden value.
+fn node_over(
+    input: bool,
     height: u16,
-    base: usize,
+    base: u16,
+    values: &[u8; MOST_COLUMNS],
+    below: &[u16; 1024],
+    c: usize,
+) -> Node
+    requires { (c < 512) × (base ≤ 20000) × ((q : ℕ) → q < cond input (c * 2 + 2) (c + 1) → get_or below.now q 0 < 512) }
+    ensures { result ≡ node_over input height base values.now below.now c }
+{
+    if input {
+        return Node {
+            height,
+            low: base + below[c * 2],
+            high: base + below[c * 2 + 1],
+        };
+    }
+    let next = base + below[c];
+    Node {
+        height,
+        low: allowed(values[c], 1, next),
+        high: allowed(values[c], 0, next),
+    }
+}
+
+// The number of the first node at a height, where count nodes stand above it.
+fn first_node(height: usize, count: usize) -> u16
+    requires { count ≤ 10240 }
+    ensures { (result ≡ first_node height count) × (result ≤ 20000) }
+{
+    if height == 0 {
+        return 1;
+    }
+    2 + count as u16
+}
+
+// The words of the nodes of the columns above a height: values has their outputs' values, below the numbers of the candidates.
+pub fn store_nodes(
+    here: &Height,
     values: &[u8; MOST_COLUMNS],
     below: &[u16; 1024],
     words: &mut NodeWords,
 )
-    requires { (w ≤ 512) × (at + w ≤ 10240) × (base ≤ 20000) × ((q : ℕ) → q < w → get_or below.now q 0 < 512) }
+    requires { (here.now.a ≤ 12) × (here.now.b ≤ 8) × (here.now.w ≤ 512) × (here.now.at + here.now.w ≤ 10240) × ((q : ℕ) → q < cond here.now.input (here.now.w * 2) here.now.w → get_or below.now q 0 < 512) }
     ensures { words.new
-        ≡ sets words.old (at * 3)
+        ≡ sets words.old (here.now.at * 3)
         (node_words
-        (tab w
-        (λ c.
-        node height (cond (eqb (get_or values.now c 0) 1) 0 (base + get_or below.now c 0))
-        (cond (eqb (get_or values.now c 0) 0) 0 (base + get_or below.now c 0))))) }
+        (tab here.now.w
+        (node_over here.now.input (here.now.a + here.now.b + 1) (first_node (here.now.a + here.now.b) (here.now.at + here.now.w)) values.now below.now))) }
 {
-    let mut c = 0;
-    while c < w {
-        let next = child(base, below[c]);
-        let low = allowed(values[c], 1, next);
-        let high = allowed(values[c], 0, next);
-        store_node(at + c, height, low, high, words);
-        c += 1;
-    }
-}
-
-// The first count words.
-pub fn copy_words(count: usize, from: &NodeWords, to: &mut NodeWords)
-    requires { count ≤ 30720 }
-    ensures { to.new ≡ puts count (λ i. get_or from.now i 0) to.old }
-{
-    let mut i = 0;
-    while i < count {
-        to[i] = from[i];
-        i += 1;
-    }
-}
-
-pub fn copy_widths(count: usize, from: &Widths, to: &mut Widths)
-    requires { count ≤ 20 }
-    ensures { to.new ≡ puts count (λ i. get_or from.now i 0) to.old }
-{
-    let mut i = 0;
-    while i < count {
-        to[i] = from[i];
-        i += 1;
+    let height = (here.a + here.b + 1) as u16;
+    let base = first_node(here.a + here.b, here.at + here.w);
+    for c in 0..here.w {
+        let node = node_over(here.input, height, base, values, below, c);
+        store_node(here.at + c, node, words);
     }
 }

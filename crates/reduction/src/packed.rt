@@ -5,7 +5,7 @@ ghost use Rattle.laws.specs.Lists.{puts};
 ghost use Rattle.laws.specs.Bits.{marks};
 ghost use Rattle.reduction.specs.Packed.{places_with, packed_word, half, lines_mask, candidates_of};
 
-use crate::casts::{bit_of, power, wide};
+use crate::state::Height;
 use sheet_spec::Table;
 
 // bit where x is v, else 0.
@@ -24,10 +24,8 @@ fn pack_line(table: &Table, base: usize, count: usize, bit: u8, v: u8, places: &
     ensures { places.new
         ≡ puts count (λ x. bit_or (get_or places.old x 0) (cond (eqb (get_or table.now (base + x) 0) v) bit 0)) places.old }
 {
-    let mut x = 0;
-    while x < count {
+    for x in 0..count {
         places[x] = places[x] | mark(table[base + x], v, bit);
-        x += 1;
     }
 }
 
@@ -39,11 +37,9 @@ fn pack_lines(n: usize, m: usize, table: &Table, v: u8, places: &mut [u8; 4096])
         (λ x. marks (get_or places.old x 0) (λ k. cond (eqb (get_or table.now (k * 2 ^ n + x) 0) v) (2 ^ k) 0) m)
         places.old }
 {
-    let count = power(n);
-    let mut k = 0;
-    while k < m {
-        pack_line(table, k * count, count, bit_of(k), v, places);
-        k += 1;
+    let count = 1 << n;
+    for k in 0..m {
+        pack_line(table, k * count, count, 1 << k, v, places);
     }
 }
 
@@ -53,10 +49,8 @@ fn packed_word(places: &[u8; 4096], i: usize) -> u64
     ensures { result ≡ packed_word places.now i }
 {
     let mut word = 0;
-    let mut j = 0;
-    while j < 8 {
-        word = word | (wide(places[i * 8 + j]) << (j * 8));
-        j += 1;
+    for j in 0..8 {
+        word = word | (u64::from(places[i * 8 + j]) << (j * 8));
     }
     word
 }
@@ -65,10 +59,8 @@ fn packed_word(places: &[u8; 4096], i: usize) -> u64
 fn pack_words(places: &[u8; 4096], words: &mut [u64; 1024])
     ensures { words.new ≡ puts 512 (packed_word places.now) words.old }
 {
-    let mut i = 0;
-    while i < 512 {
+    for i in 0..512 {
         words[i] = packed_word(places, i);
-        i += 1;
     }
 }
 
@@ -99,10 +91,8 @@ fn halves(w: usize, s: usize, from: &[u64; 1024], to: &mut [u64; 1024])
     ensures { to.new ≡ puts (w * 2) (λ q. half s (get_or from.now (q / 2) 0) (q % 2)) to.old }
 {
     let count = w * 2;
-    let mut q = 0;
-    while q < count {
+    for q in 0..count {
         to[q] = half(from[q / 2], q % 2, s);
-        q += 1;
     }
 }
 
@@ -111,10 +101,8 @@ fn keep_bits(count: usize, mask: u64, from: &[u64; 1024], to: &mut [u64; 1024])
     requires { count ≤ 1024 }
     ensures { to.new ≡ puts count (λ i. bit_and (get_or from.now i 0) mask) to.old }
 {
-    let mut i = 0;
-    while i < count {
+    for i in 0..count {
         to[i] = from[i] & mask;
-        i += 1;
     }
 }
 
@@ -126,27 +114,18 @@ fn lines_mask(b: usize) -> u64
     ((1 << b) - 1) * 72340172838076673
 }
 
-// The columns below w columns: their halves below an input, themselves without the line b below an output. a inputs and b outputs stand
-// below, and a column below has size words.
-pub fn candidates(
-    input: bool,
-    a: usize,
-    b: usize,
-    size: usize,
-    w: usize,
-    from: &[u64; 1024],
-    to: &mut [u64; 1024],
-)
-    requires { (b ≤ 8) × (w ≤ 512) × (w * 2 * size ≤ 1024) }
-    ensures { to.new ≡ candidates_of input a b size w from.now to.old }
+// The columns below the columns above a height: their halves below an input, themselves without the line b below an output.
+pub fn candidates(here: &Height, from: &[u64; 1024], to: &mut [u64; 1024])
+    requires { (here.now.b ≤ 8) × (here.now.w ≤ 512) × (here.now.w * 2 * here.now.size ≤ 1024) }
+    ensures { to.new ≡ candidates_of here.now.input here.now.a here.now.b here.now.size here.now.w from.now to.old }
 {
-    if input {
-        if a < 3 {
-            halves(w, 8 << a, from, to);
+    if here.input {
+        if here.a < 3 {
+            halves(here.w, 8 << here.a, from, to);
             return;
         }
-        keep_bits(w * 2 * size, lines_mask(8), from, to);
+        keep_bits(here.w * 2 * here.size, lines_mask(8), from, to);
         return;
     }
-    keep_bits(w * size, lines_mask(b), from, to);
+    keep_bits(here.w * here.size, lines_mask(here.b), from, to);
 }

@@ -1,52 +1,43 @@
 // The reduction of a job and its sheet: one pass down the heights.
-ghost use Rattle.std.specs.Prelude.{◌≡◌, false, cond, List, ℕ, ◌≤◌, ◌<◌, ◌+◌, ◌-◌, ◌*◌, eqb, leb, length, get_or, replicate};
+ghost use Rattle.std.specs.Prelude.{◌≡◌, false, cond, List, ℕ, ◌≤◌, ◌<◌, ◌+◌, ◌-◌, ◌*◌, eqb, length, get_or, replicate, Ok, Err, OnOk};
 ghost use Rattle.std.proofs.lemmas.List.Edits.{sets};
 ghost use Rattle.laws.specs.Lists.{puts};
-ghost use Rattle.sheet_spec.specs.Job.{job, is_input};
+ghost use Rattle.refusals.specs.declared.Refusal.TheVariants.{TooWide};
+ghost use Rattle.refusals.specs.Numbers.{answered};
+ghost use Rattle.sheet_spec.specs.Job.{is_input};
+ghost use Rattle.sheet_spec.specs.Given.{job_given};
 ghost use Rattle.sheet_spec.specs.Refusals.{sheet_refusal};
 ghost use Rattle.sheet_spec.specs.Table.{table, table_after};
 ghost use Rattle.reduction_spec.specs.Columns.{width};
 ghost use Rattle.reduction_spec.specs.Merge.{refuse7};
 ghost use Rattle.reduction_spec.specs.Diagram.{node_words};
 ghost use Rattle.reduction.specs.Packed.{size, packed_word, places_with};
-ghost use Rattle.reduction.specs.Lowering.{firsts_below, cliques_below, product_below, nodes_over};
+ghost use Rattle.reduction.specs.Lowering.{narrow_or, firsts_below, cliques_below, product_below, nodes_over};
 ghost use Rattle.reduction_spec.specs.Reduction.{reduction_refusal, final_table, final_nodes, reduction};
+ghost use Rattle.reduction_spec.specs.Given.{reduction_given};
 
-use crate::casts::narrow16;
 use crate::heights::step;
 use crate::packed::pack;
-use reduction_spec::{LINKS, Links, MOST_COLUMNS, MOST_NODES, NodeWords, Reduction, Widths};
-use sheet_spec::TABLE_BYTES;
-
-// What the pass answers where some height is too wide.
-const TOO_WIDE: usize = MOST_NODES + 1;
+use crate::state::{Height, Planes};
+use reduction_spec::{LINKS, Links, NodeWords, Widths};
+use refusals::Refusal;
+use sheet_spec::{Job, TABLE_BYTES};
 
 // The planes of the sheet's table, where no refusal is given.
-fn planes(
-    n: usize,
-    m: usize,
-    k: usize,
-    l: usize,
-    order: &[u8],
-    sheet: &[u8],
-    zero: &mut [u64; 1024],
-    one: &mut [u64; 1024],
-) -> u8
-    ensures value { result ≡ sheet_refusal (job n m k l order.now) sheet.now }
-    ensures zero_after { result ≡ 0
-        → zero.new
-        ≡ puts 512 (packed_word (places_with (table_after (job n m k l order.now) sheet.now (replicate 32768 0)) n m 0)) zero.old }
-    ensures one_after { result ≡ 0
-        → one.new
-        ≡ puts 512 (packed_word (places_with (table_after (job n m k l order.now) sheet.now (replicate 32768 0)) n m 1)) one.old }
+fn fill_planes(job: &Job<'_>, sheet: &[u8], planes: &mut Planes) -> Result<(), Refusal>
+    ensures value { answered result ≡ sheet_refusal (job_given job.now) sheet.now }
+    ensures zero_after { answered result ≡ 0
+        → planes.new.zero
+        ≡ puts 512 (packed_word (places_with (table_after (job_given job.now) sheet.now (replicate 32768 0)) job.now.n job.now.m 0)) planes.old.zero }
+    ensures one_after { answered result ≡ 0
+        → planes.new.one
+        ≡ puts 512 (packed_word (places_with (table_after (job_given job.now) sheet.now (replicate 32768 0)) job.now.n job.now.m 1)) planes.old.one }
 {
     let mut table = [0u8; TABLE_BYTES];
-    let r = sheet::fill_table(n, m, k, l, order, sheet, &mut table);
-    if r == 0 {
-        pack(n, m, &table, 0, zero);
-        pack(n, m, &table, 1, one);
-    }
-    r
+    sheet::fill_table(job, sheet, &mut table)?;
+    pack(job.n, job.m, &table, 0, &mut planes.zero);
+    pack(job.n, job.m, &table, 1, &mut planes.one);
+    Ok(())
 }
 
 fn is_input(v: u8) -> bool
@@ -60,10 +51,7 @@ fn inputs_below(input: bool, a: usize) -> usize
     ensures { result ≡ cond input (a - 1) a }
 {
     if input {
-        if a == 0 {
-            return 0;
-        }
-        return a - 1;
+        return a.saturating_sub(1);
     }
     a
 }
@@ -79,139 +67,77 @@ fn words_in(a: usize) -> usize
     1 << (a - 3)
 }
 
-// The number of the first node at a height, where count nodes stand above it.
-fn first_node(height: usize, count: usize) -> usize
-    requires { count ≤ 10240 }
-    ensures { result ≡ cond (eqb height 0) 1 (2 + count) }
+// The step to a height, where w columns stand right above it and at nodes above those.
+fn height_at(input: bool, a: usize, height: usize, w: usize, at: usize) -> Height
+    requires { (a ≤ 12) × (a ≤ height) }
+    ensures { result ≡ record { input = input; a = a; b = height - a; size = size a; w = w; at = at } }
 {
-    if height == 0 {
-        return 1;
-    }
-    2 + count
-}
-
-// One height further down, to a height with a inputs below: w columns stand right above it, and at nodes above those. Answers as step does.
-fn one_height(
-    input: bool,
-    a: usize,
-    w: usize,
-    at: usize,
-    height: usize,
-    zero: &mut [u64; 1024],
-    one: &mut [u64; 1024],
-    link: &mut Links,
-    words: &mut NodeWords,
-) -> usize
-    requires { (a ≤ 12) × (a ≤ height) × (height - a ≤ 8) × (input ≡ false → height - a < 8) × (w ≤ 512) × (w * 2 * size a ≤ 1024) × (length link.old ≡ 262144) × (at + w ≤ 10240) }
-    ensures value { result
-        ≡ cond (leb (length (firsts_below input a (height - a) (size a) w zero.old one.old)) 512)
-        (length (cliques_below input a (height - a) (size a) w zero.old one.old)) 513 }
-    ensures zero_after { result ≤ 512
-        → zero.new ≡ product_below input a (height - a) (size a) w zero.old one.old zero.old zero.old }
-    ensures one_after { result ≤ 512
-        → one.new ≡ product_below input a (height - a) (size a) w zero.old one.old one.old one.old }
-    ensures words_after { result ≤ 512
-        → words.new
-        ≡ sets words.old (at * 3)
-        (node_words (nodes_over input a (height - a) (size a) w zero.old one.old (height + 1) (cond (eqb height 0) 1 (2 + (at + w))))) }
-    ensures link_len { result ≤ 512 → length link.new ≡ 262144 }
-{
-    let base = first_node(height, at + w);
-    step(
+    Height {
         input,
         a,
-        height - a,
-        words_in(a),
+        b: height - a,
+        size: words_in(a),
         w,
         at,
-        narrow16(height + 1),
-        base,
-        zero,
-        one,
-        link,
-        words,
-    )
+    }
 }
 
-// The pass down the heights, over the planes of an accepted sheet's table: the number of nodes, or 10,241 where some height is too wide.
+// The pass down the heights, over the planes of an accepted sheet's table: the number of nodes, unless some height is too wide.
 fn all_heights(
-    n: usize,
-    m: usize,
-    order: &[u8],
-    zero: &mut [u64; 1024],
-    one: &mut [u64; 1024],
+    job: &Job<'_>,
+    planes: &mut Planes,
     widths: &mut Widths,
     words: &mut NodeWords,
-) -> usize
+) -> Result<usize, Refusal>
     requires zeros { (widths.old ≡ replicate 20 0) × (words.old ≡ replicate 30720 0) }
-    requires accepted { (k : ℕ) × (l : ℕ) × (s : List ℕ) × (sheet_refusal (job n m k l order.now) s ≡ 0)
-        × (zero.old ≡ puts 512 (packed_word (places_with (table_after (job n m k l order.now) s (replicate 32768 0)) n m 0)) (replicate 1024 0))
-        × (one.old ≡ puts 512 (packed_word (places_with (table_after (job n m k l order.now) s (replicate 32768 0)) n m 1)) (replicate 1024 0)) }
-    ensures { (k l : ℕ) (s : List ℕ) → (sheet_refusal (job n m k l order.now) s ≡ 0)
-        × (zero.old ≡ puts 512 (packed_word (places_with (table_after (job n m k l order.now) s (replicate 32768 0)) n m 0)) (replicate 1024 0))
-        × (one.old ≡ puts 512 (packed_word (places_with (table_after (job n m k l order.now) s (replicate 32768 0)) n m 1)) (replicate 1024 0))
-        → (result ≡ cond (refuse7 (job n m k l order.now) (table (job n m k l order.now) s)) 10241 (length (final_nodes (job n m k l order.now) s)))
-        × (refuse7 (job n m k l order.now) (table (job n m k l order.now) s) ≡ false
-        → ((i : ℕ) → i < n + m → get_or widths.new i 0 ≡ width (job n m k l order.now) (final_table (job n m k l order.now) s) i)
-        × (words.new ≡ sets (replicate 30720 0) 0 (node_words (final_nodes (job n m k l order.now) s)))) }
+    requires accepted { (s : List ℕ) × (sheet_refusal (job_given job.now) s ≡ 0)
+        × (planes.old.zero ≡ puts 512 (packed_word (places_with (table_after (job_given job.now) s (replicate 32768 0)) job.now.n job.now.m 0)) (replicate 1024 0))
+        × (planes.old.one ≡ puts 512 (packed_word (places_with (table_after (job_given job.now) s (replicate 32768 0)) job.now.n job.now.m 1)) (replicate 1024 0)) }
+    ensures { (s : List ℕ) → (sheet_refusal (job_given job.now) s ≡ 0)
+        × (planes.old.zero ≡ puts 512 (packed_word (places_with (table_after (job_given job.now) s (replicate 32768 0)) job.now.n job.now.m 0)) (replicate 1024 0))
+        × (planes.old.one ≡ puts 512 (packed_word (places_with (table_after (job_given job.now) s (replicate 32768 0)) job.now.n job.now.m 1)) (replicate 1024 0))
+        → (result ≡ cond (refuse7 (job_given job.now) (table (job_given job.now) s)) (Err TooWide) (Ok (length (final_nodes (job_given job.now) s))))
+        × (refuse7 (job_given job.now) (table (job_given job.now) s) ≡ false
+        → ((i : ℕ) → i < job.now.n + job.now.m → get_or widths.new i 0 ≡ width (job_given job.now) (final_table (job_given job.now) s) i)
+        × (words.new ≡ sets (replicate 30720 0) 0 (node_words (final_nodes (job_given job.now) s)))) }
 {
     let mut link = [0u8; LINKS];
-    let t = n + m;
-    let mut a = n;
+    let t = job.n + job.m;
+    let mut a = job.n;
     let mut w = 1;
     let mut at = 0;
-    let mut height = t;
-    while 0 < height {
-        let input = is_input(order[t - height]);
-        height -= 1;
+    for k in 0..t {
+        let input = is_input(job.order[k]);
         a = inputs_below(input, a);
-        let count = one_height(input, a, w, at, height, zero, one, &mut link, words);
-        if MOST_COLUMNS < count {
-            return TOO_WIDE;
-        }
-        widths[height] = narrow16(count);
+        let height = t - 1 - k;
+        let here = height_at(input, a, height, w, at);
+        let count = step(&here, planes, &mut link, words)?;
+        widths[height] = count as u16;
         at += w;
         w = count;
     }
-    at
+    Ok(at)
 }
 
 // The answer; where nothing is refused, widths and words hold the widths and the node words. Both are lent as zeros.
 pub fn reduce_all(
-    n: usize,
-    m: usize,
-    k: usize,
-    l: usize,
-    order: &[u8],
+    job: &Job<'_>,
     sheet: &[u8],
     widths: &mut Widths,
     words: &mut NodeWords,
-) -> Reduction
+) -> Result<u16, Refusal>
     requires { (widths.old ≡ replicate 20 0) × (words.old ≡ replicate 30720 0) }
-    ensures value { result ≡ reduction (job n m k l order.now) sheet.now }
-    ensures widths_after { reduction_refusal (job n m k l order.now) sheet.now ≡ 0
-        → (i : ℕ) → i < n + m → get_or widths.new i 0 ≡ width (job n m k l order.now) (final_table (job n m k l order.now) sheet.now) i }
-    ensures words_after { reduction_refusal (job n m k l order.now) sheet.now ≡ 0
-        → words.new ≡ sets (replicate 30720 0) 0 (node_words (final_nodes (job n m k l order.now) sheet.now)) }
+    ensures value { reduction_given result ≡ reduction (job_given job.now) sheet.now }
+    ensures widths_after { reduction_refusal (job_given job.now) sheet.now ≡ 0
+        → (i : ℕ) → i < job.now.n + job.now.m → get_or widths.new i 0 ≡ width (job_given job.now) (final_table (job_given job.now) sheet.now) i }
+    ensures words_after { reduction_refusal (job_given job.now) sheet.now ≡ 0
+        → words.new ≡ sets (replicate 30720 0) 0 (node_words (final_nodes (job_given job.now) sheet.now)) }
 {
-    let mut zero = [0u64; 1024];
-    let mut one = [0u64; 1024];
-    let r = planes(n, m, k, l, order, sheet, &mut zero, &mut one);
-    if r != 0 {
-        return Reduction {
-            refusal: r,
-            nodes: 0,
-        };
-    }
-    let nodes = all_heights(n, m, order, &mut zero, &mut one, widths, words);
-    if MOST_NODES < nodes {
-        return Reduction {
-            refusal: 7,
-            nodes: 0,
-        };
-    }
-    Reduction {
-        refusal: 0,
-        nodes: narrow16(nodes),
-    }
+    let mut planes = Planes {
+        zero: [0; 1024],
+        one: [0; 1024],
+    };
+    fill_planes(job, sheet, &mut planes)?;
+    let nodes = all_heights(job, &mut planes, widths, words)?;
+    Ok(nodes as u16)
 }

@@ -10,7 +10,7 @@ ghost use Rattle.reduction_spec.specs.Walk.{walk};
 ghost use Rattle.reduction_spec.specs.Compare.{same_columns, compatible_columns};
 ghost use Rattle.reduction_spec.specs.Descent.{descent};
 
-use crate::walks::{compatible_nodes, descend, less, same_nodes, walk_to};
+use crate::walks::{compatible_nodes, descend, same_nodes, walk_to};
 use reduction_spec::{NodeWords, Reached};
 
 // Where a walk from the node at the height ends; bit g of bits is the value of the variable at height g + 1.
@@ -24,20 +24,14 @@ pub fn walk(words: &NodeWords, bits: u32, height: u8, node: u16) -> u16
 pub fn same_columns(words: &NodeWords, height: u8, v: u16, u: u16) -> bool
     ensures { result ≡ same_columns words.now height v u }
 {
-    if height <= 20 {
-        return same_nodes(words, height, v, u);
-    }
-    false
+    height <= 20 && same_nodes(words, height, v, u)
 }
 
 // The columns of the nodes v and u at one height are compatible.
 pub fn compatible_columns(words: &NodeWords, height: u8, v: u16, u: u16) -> bool
     ensures { result ≡ compatible_columns words.now height v u }
 {
-    if height <= 20 {
-        return compatible_nodes(words, height, v, u);
-    }
-    false
+    height <= 20 && compatible_nodes(words, height, v, u)
 }
 
 // From the node at the cut top down to the cut bottom; inputs are the values of the count inputs between, topmost most significant.
@@ -57,7 +51,7 @@ pub fn descent(
             words,
             order,
             bottom,
-            less(top, bottom),
+            top.saturating_sub(bottom),
             node,
             inputs,
             count,

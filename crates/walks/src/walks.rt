@@ -6,27 +6,13 @@ ghost use Rattle.reduction_spec.specs.Compare.{neither_zero, same_nodes, compati
 ghost use Rattle.reduction_spec.specs.Descent.{descend};
 
 use crate::nodes::{high_of, is_input_at, low_of};
-use numbers::{long16, wide};
 use reduction_spec::{NodeWords, Reached};
-
-// a - b, or 0 where b is more.
-pub fn less(a: u8, b: u8) -> u8
-    ensures { result ≡ a - b }
-{
-    if a < b {
-        return 0;
-    }
-    a - b
-}
 
 // Bit h of bits is 1.
 fn bit_at(bits: u32, h: u8) -> bool
     ensures { result ≡ has bits h }
 {
-    if h < 32 {
-        return (bits >> h) % 2 == 1;
-    }
-    false
+    h < 32 && (bits >> h) % 2 == 1
 }
 
 // The child of node v that bit h chooses.
@@ -44,10 +30,7 @@ fn child_of(words: &NodeWords, bits: u32, h: u8, v: u16) -> u16
 pub fn walk_to(words: &NodeWords, bits: u32, h: u8, v: u16) -> u16
     ensures { result ≡ walk words.now bits h v }
 {
-    if h == 0 {
-        return v;
-    }
-    if v < 2 {
+    if h == 0 || v < 2 {
         return v;
     }
     walk_to(words, bits, h - 1, child_of(words, bits, h - 1, v))
@@ -57,49 +40,26 @@ pub fn walk_to(words: &NodeWords, bits: u32, h: u8, v: u16) -> u16
 pub fn same_nodes(words: &NodeWords, h: u8, v: u16, u: u16) -> bool
     ensures { result ≡ same_nodes words.now h v u }
 {
-    if v == u {
-        return true;
+    if h == 0 || v < 2 || u < 2 {
+        return v == u;
     }
-    if h == 0 {
-        return false;
-    }
-    if v < 2 {
-        return false;
-    }
-    if u < 2 {
-        return false;
-    }
-    let low = same_nodes(words, h - 1, low_of(words, v), low_of(words, u));
-    if low {
-        return same_nodes(words, h - 1, high_of(words, v), high_of(words, u));
-    }
-    false
+    v == u
+        || same_nodes(words, h - 1, low_of(words, v), low_of(words, u))
+            && same_nodes(words, h - 1, high_of(words, v), high_of(words, u))
 }
 
 // Neither node is constant 0.
 fn is_open(v: u16, u: u16) -> bool
     ensures { result ≡ neither_zero v u }
 {
-    if v == 0 {
-        return false;
-    }
-    if u == 0 {
-        return false;
-    }
-    true
+    v != 0 && u != 0
 }
 
 // The nodes v and u at height h have compatible columns.
 pub fn compatible_nodes(words: &NodeWords, h: u8, v: u16, u: u16) -> bool
     ensures { result ≡ compatible_nodes words.now h v u }
 {
-    if h == 0 {
-        return is_open(v, u);
-    }
-    if v < 2 {
-        return is_open(v, u);
-    }
-    if u < 2 {
+    if h == 0 || v < 2 || u < 2 {
         return is_open(v, u);
     }
     let low_v = low_of(words, v);
@@ -109,19 +69,10 @@ pub fn compatible_nodes(words: &NodeWords, h: u8, v: u16, u: u16) -> bool
     let low_open = is_open(low_v, low_u);
     let high_open = is_open(high_v, high_u);
     if low_open {
-        let low = compatible_nodes(words, h - 1, low_v, low_u);
-        if low {
-            if high_open {
-                return compatible_nodes(words, h - 1, high_v, high_u);
-            }
-            return true;
-        }
-        return false;
+        return compatible_nodes(words, h - 1, low_v, low_u)
+            && (!high_open || compatible_nodes(words, h - 1, high_v, high_u));
     }
-    if high_open {
-        return compatible_nodes(words, h - 1, high_v, high_u);
-    }
-    false
+    high_open && compatible_nodes(words, h - 1, high_v, high_u)
 }
 
 // k heights down from the node v at height bottom + k; o are the outputs met so far.
@@ -138,21 +89,15 @@ pub fn descend(
     requires { (k ≤ 20) × (o < 2 ^ (20 - k)) }
     ensures { result ≡ descend words.now order.now bottom k v x count o }
 {
-    if k == 0 {
+    if k == 0 || v < 2 {
         return Reached {
             node: v,
             outputs: o,
         };
     }
-    if v < 2 {
-        return Reached {
-            node: v,
-            outputs: o,
-        };
-    }
-    if is_input_at(order, wide(bottom) + wide(k) - 1) {
-        let left = less(count, 1);
-        let next = child_of(words, long16(x), left, v);
+    if is_input_at(order, usize::from(bottom) + usize::from(k) - 1) {
+        let left = count.saturating_sub(1);
+        let next = child_of(words, u32::from(x), left, v);
         return descend(words, order, bottom, k - 1, next, x, left, o);
     }
     let low = low_of(words, v);

@@ -7,18 +7,23 @@ use Prim.Native.Nat.{ℕ, zero, suc, ◌+◌, ◌*◌, ◌<◌, ◌≤◌}
 use native.Mathlib.Nat.{not-suc-le-zero}
 use native.Mathlib.Numerals.{add-one}
 use native.Mathlib.Omega.{arith}
-use borrow.Author.Tests.{eq-eqb, eqb-true, eqb-false, lt-ltb, le-ltb, le-leb, lt-leb}
-use lib.Dec.{eqb, ltb, leb}
+use borrow.Author.Tests.{eq-eqb, eqb-true, eqb-false, lt-ltb, le-ltb}
+use lib.Dec.{eqb, ltb}
 use lib.ListN.{length, get_or, set, length-set, length-append, get_or-append, replicate, length-replicate}
 use lib.Seq.{get_or_at, get_or-set_same, get_or-set_other, sets}
 use Rattle.laws.specs.Tests.{least}
 use Rattle.laws.specs.Lists.{tab, puts}
-use Rattle.laws.proofs.Cases.{by_test, by_less, last_or_below, cond_yes, cond_no, cond-each}
+use Rattle.laws.proofs.Cases.{by_test, by_less, last_or_below, cond-each}
 use Rattle.laws.proofs.Find.{find_ext}
 use Rattle.laws.proofs.Lists.{row_end, tab_of}
 use Rattle.laws.proofs.Puts.{puts_ext, puts-sets}
 use Rattle.reduction_spec.specs.Numbering.{index_in, firsts_of}
 use Rattle.reduction.specs.Distinct.{same_words}
+use Rattle.reduction.specs.Lowering.{narrow_or}
+use Rattle.reduction.proofs.Narrow.{narrow_yes, narrow_no}
+use Rattle.std.specs.Prelude.{Result, Ok, Err}
+use Rattle.refusals.specs.declared.Refusal.{Refusal}
+use Rattle.refusals.specs.declared.Refusal.TheVariants.{TooWide}
 use Rattle.reduction.specs.ColumnHashes.{key_of, is_kept, Inside}
 use Rattle.reduction.proofs.distinct.ColumnHashes.{same_key}
 use Rattle.reduction_spec.proofs.Numbering.{index_most}
@@ -126,20 +131,20 @@ module _ (R : ℕ → ℕ → Bool) (K : ℕ → ℕ) where
     so_far_room differ = let l = so_far_small in by_less c 512 (λ k. k) (λ k. absurd (differ (omega arith)))
 
     -- a column more than 512
-    pub so_far_full : (cands : ℕ) → q < cands → c ≡ 512 → 513 ≡ cond (leb (length (firsts_of R cands)) 512) (length (firsts_of R cands)) 513
+    pub so_far_full : (cands : ℕ) → q < cands → c ≡ 512 → ◌≡◌ {A = Result ℕ Refusal} (Err TooWide) (narrow_or (length (firsts_of R cands)) (length (firsts_of R cands)))
     so_far_full cands l e =
         let ps = firsts_of R q in
         let full : count ≡ 512 = omega (arith, so_far_le, h.few) in
         let more : firsts_of R (suc q) ≡ ps ++ (q ∷ []) = firsts_new R q (omega (arith, h.many)) in
         let long : length (firsts_of R (suc q)) ≡ 513 = ap length more ∙ omega (arith, length-append ps (q ∷ []), h.many) in
         let rise = firsts_rise R (suc q) cands l in
-        sym (cond_no (leb (length (firsts_of R cands)) 512) (length (firsts_of R cands)) 513 (lt-leb (length (firsts_of R cands)) 512 (omega arith)))
+        narrow_no (length (firsts_of R cands)) (length (firsts_of R cands)) (omega arith)
 
   -- all columns are numbered
   module _ (q count : ℕ) (keys kept : List ℕ) (h : SoFar R K q count keys kept) where
-    pub so_far_count : count ≡ cond (leb (length (firsts_of R q)) 512) (length (firsts_of R q)) 513
+    pub so_far_count : ◌≡◌ {A = Result ℕ Refusal} (Ok count) (narrow_or (length (firsts_of R q)) (length (firsts_of R q)))
     so_far_count =
-        h.many ∙ sym (cond_yes (leb (length (firsts_of R q)) 512) (length (firsts_of R q)) 513 (le-leb (length (firsts_of R q)) 512 (omega (arith, h.many, h.few))))
+        ap Ok h.many ∙ narrow_yes (length (firsts_of R q)) (length (firsts_of R q)) (omega (arith, h.many, h.few))
 
     pub so_far_copy : (l : List ℕ) → puts count (λ c. get_or kept c 0) l ≡ sets l 0 (firsts_of R q)
     so_far_copy l =

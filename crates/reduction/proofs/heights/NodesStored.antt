@@ -1,44 +1,21 @@
 -- The nodes above the columns of a height, from the arrays that hold the columns' numbers and values.
 -- Assumes nothing.
-use mathlib.Core.Path.{◌≡◌, sym, ◌∙◌, ap, ap₂}
+use mathlib.Core.Path.{◌≡◌, refl, ◌∙◌, ap, ap₂}
 use mathlib.Core.Bool.{Bool, true, false, cond}
 use mathlib.Core.List.{List}
 use Prim.Native.Nat.{ℕ, ◌+◌, ◌*◌, ◌<◌, ◌≤◌}
 use native.Mathlib.Omega.{arith}
-use borrow.Author.Tests.{leb-true}
-use lib.Dec.{eqb, leb}
+use lib.Dec.{eqb}
 use lib.ListN.{length, get_or, replicate}
 use Rattle.laws.specs.Lists.{tab, puts}
-use Rattle.laws.proofs.Cases.{by_test, cond_yes, cond_no}
 use Rattle.laws.proofs.Lists.{tab_ext}
 use Rattle.laws.proofs.Puts.{stored}
 use Rattle.reduction.specs.Packed.{value_in}
 use Rattle.reduction_spec.specs.Diagram.{node}
-use Rattle.reduction.specs.Lowering.{candidate_count, firsts_below, cliques_below, number_below, nodes_over}
-use Rattle.reduction.proofs.heights.LoweringArrays.{cands_few, child-few, cliques_fit}
+use Rattle.reduction.specs.Lowering.{node_over, candidate_count, firsts_below, number_below, nodes_over}
+use Rattle.reduction.proofs.heights.LoweringArrays.{cands_few, child-few}
 
 module _ (input : Bool) (a b size w : ℕ) (zs os : List ℕ) (few : w ≤ 512) (room : w * 2 * size ≤ 1024) where
-  abbrev answer : ℕ
-  answer = cond (leb (length (firsts_below input a b size w zs os)) 512) (length (cliques_below input a b size w zs os)) 513
-
-  -- an answer over 512 is 513; one that is not tells that at most 512 columns are different
-  pub stopped : (r : ℕ) → r ≡ cond (leb (length (firsts_below input a b size w zs os)) 512) (length (cliques_below input a b size w zs os)) 513
-      → 512 < r → 513 ≡ cond (leb (length (firsts_below input a b size w zs os)) 512) (length (cliques_below input a b size w zs os)) 513
-  stopped r e h =
-      let l = length (firsts_below input a b size w zs os) in
-      let k = length (cliques_below input a b size w zs os) in
-      by_test (leb l 512)
-      (λ t. let z : r ≡ k = e ∙ cond_yes (leb l 512) k 513 t in absurd (omega (arith, leb-true l 512 t, cliques_fit input a b size w zs os few room)))
-      (λ t. sym (cond_no (leb l 512) k 513 t))
-
-  pub went : (r : ℕ) → r ≡ cond (leb (length (firsts_below input a b size w zs os)) 512) (length (cliques_below input a b size w zs os)) 513
-      → r ≤ 512 → length (firsts_below input a b size w zs os) ≤ 512
-  went r e h =
-      let l = length (firsts_below input a b size w zs os) in
-      let k = length (cliques_below input a b size w zs os) in
-      by_test (leb l 512) (λ t. leb-true l 512 t)
-      (λ t. let z : r ≡ 513 = e ∙ cond_no (leb l 512) k 513 t in absurd (omega arith))
-
   module _ (below : List ℕ) (is : below ≡ puts (candidate_count input a b size w zs os) (number_below input a b size w zs os) (replicate 1024 0)) where
     below_at : (q : ℕ) → q < candidate_count input a b size w zs os → get_or below q 0 ≡ number_below input a b size w zs os q
     below_at q h =
@@ -73,3 +50,16 @@ module _ (a b size w : ℕ) (zs os : List ℕ) (few : w ≤ 512) (room : w * 2 *
       ap₂ (λ (x y : ℕ). node height (cond (eqb x 1) 0 (base + y)) (cond (eqb x 0) 0 (base + y)))
       (ap (λ (l : List ℕ). get_or l c 0) val ∙ stored 512 w value c few h)
       (below_at false a b size w zs os few room below is c h))
+
+pub nodes_stored : (input : Bool) (a b size w : ℕ) (zs os : List ℕ) → w ≤ 512 → w * 2 * size ≤ 1024 → (below : List ℕ) (height base : ℕ)
+    → below ≡ puts (candidate_count input a b size w zs os) (number_below input a b size w zs os) (replicate 1024 0) → (values : List ℕ)
+    → values ≡ puts w (λ c. value_in (get_or zs (c * size) 0) (get_or os (c * size) 0) b) (replicate 512 0)
+    → tab w (node_over input height base values below) ≡ nodes_over input a b size w zs os height base
+unfolding node_over
+nodes_stored true a b size w zs os few room below height base is values val =
+    tab_ext (node_over true height base values below) (λ c. node height (base + get_or below (c * 2) 0) (base + get_or below (c * 2 + 1) 0)) w (λ c h. refl)
+    ∙ inputs_over a b size w zs os few room below height base is
+nodes_stored false a b size w zs os few room below height base is values val =
+    tab_ext (node_over false height base values below)
+    (λ c. node height (cond (eqb (get_or values c 0) 1) 0 (base + get_or below c 0)) (cond (eqb (get_or values c 0) 0) 0 (base + get_or below c 0))) w (λ c h. refl)
+    ∙ outputs_over a b size w zs os few room below height base is values val

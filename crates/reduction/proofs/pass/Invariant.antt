@@ -6,14 +6,14 @@ use mathlib.Core.List.{List}
 use Prim.Native.Nat.{ℕ, zero, suc, ◌+◌, ◌-◌, ◌*◌, ◌/◌, ◌%◌, ◌^◌, ◌<◌, ◌≤◌}
 use native.Mathlib.Nat.{mul-le-mul, le_refl, add-mul}
 use native.Mathlib.Omega.{arith}
-use borrow.Author.Tests.{ltb-false, lt-ltb, le-ltb, leb-true, leb-false, le-leb}
-use lib.Dec.{eqb, leb}
+use borrow.Author.Tests.{ltb-false, lt-ltb, le-ltb}
+use lib.Dec.{eqb}
 use lib.ListN.{length, get_or, set, replicate, length-set}
 use lib.Pow.{pow-add, pow_mono}
 use lib.Seq.{sets, get_or-set_same, get_or-set_other}
 use Rattle.laws.specs.Tests.{sum}
 use Rattle.laws.specs.Lists.{tab, puts}
-use Rattle.laws.proofs.Cases.{by_test, by_less, cond_yes, last_or_below}
+use Rattle.laws.proofs.Cases.{by_less, last_or_below}
 use Rattle.laws.proofs.Counts.{sum-le, sum_fixed}
 use Rattle.laws.proofs.Lists.{tab_ext}
 use Rattle.laws.proofs.Puts.{sets-append, length-puts}
@@ -32,7 +32,6 @@ use Rattle.reduction.proofs.packed.Planes.{Plane}
 use Rattle.reduction_spec.proofs.AcceptedSheet.{width-layer}
 use Rattle.reduction_spec.proofs.HeightsInOrder.{width_at, top_nodes, top_length, first_node, input_node_lem, output_node_lem}
 use Rattle.reduction.proofs.heights.LoweringArrays.{cliques_fit}
-use Rattle.reduction.proofs.heights.NodesStored.{went}
 use Rattle.reduction.proofs.packed.PlanesMade.{length-added}
 use Rattle.reduction.proofs.heights.BelowInputOrOutput.{Step, input_step, output_step, output_value}
 use Rattle.reduction_spec.proofs.NodeWords.{node_words-append, length-node_words}
@@ -172,9 +171,6 @@ module _ (j : Job) (once : not_each_once j.n j.m j.order ≡ false) (few : j.n �
         (output_value j.n j.m (ins j H) (outs j H) g ha (omega arith) (omega arith) small_now w (rw (ea, eb) at width_above) s.few-columns planes_room zs os
         (rw (ea, eb) at (holds_above 0 zs s.zeros)) (rw (ea, eb) at (holds_above 1 os s.ones)))
 
-    pub line-room : is_input (var_at j (suc (t j - suc k))) ≡ false → outs j (t j - suc k) < 8
-    line-room v = omega (arith, outs_output j H v, outs_below j once few out (suc H) (omega arith), out)
-
     -- either kind of step
     pub stepped : (input : Bool) → is_input (var_at j (suc (t j - suc k))) ≡ input
         → (name : ℕ → ℕ) × (count : ℕ) × Step j.n j.m (ins j (t j - suc k)) (outs j (t j - suc k)) (merged j f k) input w name count zs os
@@ -213,9 +209,7 @@ module _ (j : Job) (once : not_each_once j.n j.m j.order ≡ false) (few : j.n �
     nodes-made false v = nodes_out v
 
     -- the answer of the step below an input or an output
-    module _ (input : Bool) (v : is_input (var_at j (suc (t j - suc k))) ≡ input) (r : ℕ)
-        (er : r ≡ cond (leb (length (firsts_below input (ins j (t j - suc k)) (outs j (t j - suc k)) (size (ins j (t j - suc k))) w zs os)) 512)
-        (length (cliques_below input (ins j (t j - suc k)) (outs j (t j - suc k)) (size (ins j (t j - suc k))) w zs os)) 513) where
+    module _ (input : Bool) (v : is_input (var_at j (suc (t j - suc k))) ≡ input) where
       abbrev before : ℕ
       before = length (firsts_below input (ins j H) (outs j H) (size (ins j H)) w zs os)
 
@@ -230,27 +224,20 @@ module _ (j : Job) (once : not_each_once j.n j.m j.order ≡ false) (few : j.n �
       unfolding width firsts_at merged merge_at
       width-next = (stepped input v).2.width-after
 
-      pub too_wide_lem : 512 < r → too_wide j f k ≡ true
+      pub too_wide_lem : 512 < length (firsts_below input (ins j (t j - suc k)) (outs j (t j - suc k)) (size (ins j (t j - suc k))) w zs os) → too_wide j f k ≡ true
       unfolding too_wide
-      too_wide_lem h =
-          by_test (leb before 512)
-          (λ e.
-          let z : r ≡ left = er ∙ cond_yes (leb before 512) left 513 e in
-          absurd (omega (arith, leb-true before 512 e, cliques_fit input (ins j H) (outs j H) (size (ins j H)) w zs os s.few-columns planes_room)))
-          (λ e. lt-ltb 512 (width j g H) (omega (arith, width_before, leb-false before 512 e)))
+      too_wide_lem h = lt-ltb 512 (width j g H) (omega (arith, width_before, h))
 
-      module _ (h : r ≤ 512) (zs' os' words' : List ℕ)
+      module _ (fine : length (firsts_below input (ins j (t j - suc k)) (outs j (t j - suc k)) (size (ins j (t j - suc k))) w zs os) ≤ 512) (r : ℕ)
+          (er : r ≡ length (cliques_below input (ins j (t j - suc k)) (outs j (t j - suc k)) (size (ins j (t j - suc k))) w zs os)) (zs' os' words' : List ℕ)
           (ez : zs' ≡ product_below input (ins j (t j - suc k)) (outs j (t j - suc k)) (size (ins j (t j - suc k))) w zs os zs zs)
           (eo : os' ≡ product_below input (ins j (t j - suc k)) (outs j (t j - suc k)) (size (ins j (t j - suc k))) w zs os os os)
           (ew : words'
           ≡ sets words (at * 3)
           (node_words
           (nodes_over input (ins j (t j - suc k)) (outs j (t j - suc k)) (size (ins j (t j - suc k))) w zs os (suc (t j - suc k)) (cond (eqb (t j - suc k) 0) 1 (2 + (at + w)))))) where
-        fine : before ≤ 512
-        fine = went input (ins j H) (outs j H) (size (ins j H)) w zs os s.few-columns planes_room r er h
-
         answer : r ≡ width j (merged j f (suc k)) H
-        answer = er ∙ cond_yes (leb before 512) left 513 (le-leb before 512 fine) ∙ sym width-next
+        answer = er ∙ sym width-next
 
         not_wide : too_wide j f k ≡ false
         unfolding too_wide
@@ -286,7 +273,7 @@ module _ (j : Job) (once : not_each_once j.n j.m j.order ≡ false) (few : j.n �
             record {
               inputs = refl;
               columns = answer;
-              few-columns = h;
+              few-columns = omega (arith, fine, er, cliques_fit input (ins j H) (outs j H) (size (ins j H)) w zs os s.few-columns planes_room);
               counted = next-count;
               zeros = rw ez ((stepped input v).2.zeros-after fine zs s.zeros-length);
               ones = rw eo ((stepped input v).2.ones-after fine os s.ones-length);

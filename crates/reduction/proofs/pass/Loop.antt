@@ -4,10 +4,10 @@ use mathlib.Core.Path.{◌≡◌, sym, ◌∙◌, ap}
 use mathlib.Core.Bool.{Bool, true, false, cond}
 use mathlib.Core.List.{List}
 use Prim.Native.Nat.{ℕ, suc, ◌+◌, ◌-◌, ◌*◌, ◌<◌, ◌≤◌}
+use native.Mathlib.Numerals.{add-one}
 use native.Mathlib.Omega.{arith}
 use mir.Syntax.{w64}
 use mir.Val.{Fits}
-use lib.Dec.{eqb, leb}
 use lib.ListN.{length, get_or, set, replicate, length-replicate}
 use lib.Seq.{sets}
 use Rattle.laws.specs.Lists.{puts}
@@ -21,10 +21,15 @@ use Rattle.reduction_spec.specs.Columns.{width}
 use Rattle.reduction_spec.specs.Merge.{refuse7}
 use Rattle.reduction_spec.specs.Diagram.{node_words}
 use Rattle.reduction.specs.Packed.{size, packed_word, places_with}
-use Rattle.reduction.specs.Lowering.{firsts_below, cliques_below, product_below, nodes_over}
+use Rattle.std.specs.Prelude.{Result, Ok, Err}
+use Rattle.refusals.specs.declared.Refusal.{Refusal}
+use Rattle.refusals.specs.declared.Refusal.TheVariants.{TooWide}
+use Rattle.reduction.proofs.Narrow.{few-before, answer-is, many-before, refused-wide}
+use Rattle.reduction.proofs.heights.LoweringArrays.{cliques_fit}
+use Rattle.reduction.specs.Lowering.{narrow_or, first_node, firsts_below, cliques_below, product_below, nodes_over}
 use Rattle.reduction_spec.specs.Reduction.{final_table, final_nodes}
 use Rattle.reduction_spec.proofs.AcceptedSheet.{nodes_fit}
-use Rattle.reduction.proofs.pass.Invariant.{nodes-room, planes_room, line-room, too_wide_lem, next}
+use Rattle.reduction.proofs.pass.Invariant.{nodes-room, planes_room, too_wide_lem, next}
 use Rattle.reduction.proofs.pass.Ends.{small, At, start, wide_refused, end_count, end_widths, end_words, end_narrow}
 
 -- the planes that the pass begins with
@@ -35,29 +40,28 @@ Begun j s zs os =
     × (os ≡ puts 512 (packed_word (places_with (table_after j s (replicate 32768 0)) j.n j.m 1)) (replicate 1024 0))
 
 -- what it answers
-abbrev pub Answered : Job → (s : List ℕ) (r : ℕ) (widths words : List ℕ) → Type 0
+abbrev pub Answered : Job → (s : List ℕ) (r : Result ℕ Refusal) (widths words : List ℕ) → Type 0
 Answered j s r widths words =
-    (r ≡ cond (refuse7 j (table j s)) 10241 (length (final_nodes j s)))
+    (r ≡ cond (refuse7 j (table j s)) (Err TooWide) (Ok (length (final_nodes j s))))
     × (refuse7 j (table j s) ≡ false
     → ((i : ℕ) → i < t j → get_or widths i 0 ≡ width j (final_table j s) i) × (words ≡ sets (replicate 30720 0) 0 (node_words (final_nodes j s))))
 
--- what it holds at height h, of which a inputs stand below
-pub record AtHeight (j : Job) (s : List ℕ) (h a w at : ℕ) (zs os link widths words : List ℕ) : Type 0 where
+-- what it holds after k heights, with a inputs below
+pub record AtHeight (j : Job) (s : List ℕ) (k a w at : ℕ) (zs os link widths words : List ℕ) : Type 0 where
   pub accepted : sheet_refusal j s ≡ 0
-  pub stage : At j s accepted (t j - h) a w at zs os widths words
+  pub stage : At j s accepted k a w at zs os widths words
   pub links : length link ≡ 262144
-  pub within : h ≤ t j
+  pub within : k ≤ t j
 
 pub begins : (j : Job) (s zs os widths words : List ℕ) → Begun j s zs os → widths ≡ replicate 20 0 → words ≡ replicate 30720 0
-    → AtHeight j s (t j) j.n 1 0 zs os (replicate 262144 0) widths words
+    → AtHeight j s 0 j.n 1 0 zs os (replicate 262144 0) widths words
 begins j s zs os widths words b ed ew =
-    let e : t j - t j ≡ 0 = omega arith in
-    record { accepted = b.0; stage = rw (e, ed, ew) (start j s b.0 zs os b.1 b.2); links = length-replicate {A = ℕ} 262144 0; within = omega arith }
+    record { accepted = b.0; stage = rw (ed, ew) (start j s b.0 zs os b.1 b.2); links = length-replicate {A = ℕ} 262144 0; within = omega arith }
 
 pub sum_fits : (j : Job) (s : List ℕ) → sheet_refusal j s ≡ 0 → Fits w64 (t j)
 sum_fits j s e = omega (arith, (job-accepted j s e).inputs, (job-accepted j s e).outputs)
 
-module _ (j : Job) (s : List ℕ) (h a w at : ℕ) (zs os link widths words : List ℕ) (g : AtHeight j s h a w at zs os link widths words) where
+module _ (j : Job) (s : List ℕ) (k a w at : ℕ) (zs os link widths words : List ℕ) (g : AtHeight j s k a w at zs os link widths words) where
   abbrev acc : sheet_refusal j s ≡ 0
   acc = g.accepted
 
@@ -65,37 +69,37 @@ module _ (j : Job) (s : List ℕ) (h a w at : ℕ) (zs os link widths words : Li
   read = job-accepted j s g.accepted
 
   -- one height further down
-  module _ (l : 0 < h) where
-    lower : t j - h < t j
-    lower = omega arith
+  module _ (l : k < t j) where
+    lower : k < t j
+    lower = l
 
     nodes_above_lem : at + w ≤ 10240
-    nodes_above_lem = nodes-room j read.order-whole read.inputs read.outputs (table j s) (small j s acc) (t j - h) a w at zs os widths words g.stage lower
+    nodes_above_lem = nodes-room j read.order-whole read.inputs read.outputs (table j s) (small j s acc) k a w at zs os widths words g.stage lower
 
     pub count_fits : Fits w64 (at + w)
     count_fits = omega (arith, nodes_above_lem)
 
-    pub read_fits : t j - h < length j.order
+    pub read_fits : k < length j.order
     read_fits = omega (arith, order-length j.n j.m j.order read.order-whole)
 
-    pub width_fits : h - 1 < 20
+    pub width_fits : t j - 1 - k < 20
     width_fits = omega (arith, read.inputs, read.outputs)
 
-    pub place_fits : Fits w64 ((h - 1) * 2)
+    pub place_fits : Fits w64 ((t j - 1 - k) * 2)
     place_fits = omega (arith, width_fits)
 
-  module _ (l : 0 < h) (input : Bool) (ei : input ≡ is_input (get_or j.order (t j - h) 0)) (a' : ℕ) (ea : a' ≡ cond input (a - 1) a) where
+  module _ (l : k < t j) (input : Bool) (ei : input ≡ is_input (get_or j.order k 0)) (a' : ℕ) (ea : a' ≡ cond input (a - 1) a) where
     abbrev H : ℕ
-    H = t j - suc (t j - h)
+    H = t j - suc k
 
-    height : h - 1 ≡ H
+    height : t j - 1 - k ≡ H
     height = omega arith
 
     kind : is_input (var_at j (suc H)) ≡ input
-    kind = let z : t j - suc H ≡ t j - h = omega arith in ap (λ (x : ℕ). is_input (get_or j.order x 0)) z ∙ sym ei
+    kind = let z : t j - suc H ≡ k = omega arith in ap (λ (x : ℕ). is_input (get_or j.order x 0)) z ∙ sym ei
 
     a_above : a ≡ ins j (suc H)
-    a_above = let z : t j - (t j - h) ≡ suc H = omega arith in g.stage.inputs ∙ ap (ins j) z
+    a_above = let z : t j - k ≡ suc H = omega arith in g.stage.inputs ∙ ap (ins j) z
 
     ins_is : a' ≡ ins j H
     ins_is =
@@ -103,84 +107,84 @@ module _ (j : Job) (s : List ℕ) (h a w at : ℕ) (zs os link widths words : Li
         (λ e. let z : a' ≡ a - 1 = rw e at ea in omega (arith, a_above, ins_input j H (kind ∙ e)))
         (λ e. let z : a' ≡ a = rw e at ea in omega (arith, a_above, ins_output j H (kind ∙ e)))
 
-    outs_is : h - 1 - a' ≡ outs j H
+    outs_is : t j - 1 - k - a' ≡ outs j H
     outs_is = omega (arith, ins_is, ins-outs j H, height)
 
-    pub height_needs : (a' ≤ 12) × (a' ≤ h - 1) × (h - 1 - a' ≤ 8) × (input ≡ false → h - 1 - a' < 8) × (w ≤ 512) × (w * 2 * size a' ≤ 1024) × (length link ≡ 262144) × (at + w ≤ 10240)
+    pub height_needs : (a' ≤ 12) × (a' ≤ t j - 1 - k) × (t j - 1 - k - a' ≤ 8) × (w ≤ 512) × (w * 2 * size a' ≤ 1024) × (length link ≡ 262144) × (at + w ≤ 10240)
     height_needs = (
       omega (arith, ins_is, ins_below_lem j read.order-whole read.inputs read.outputs H (omega arith), read.inputs),
       omega (arith, ins_is, ins-outs j H, height),
       omega (arith, outs_is, outs_below j read.order-whole read.inputs read.outputs H (omega arith), read.outputs),
-      (λ e. rw outs_is
-          (line-room j read.order-whole read.inputs read.outputs (table j s) (small j s acc) (t j - h) a w at zs os widths words g.stage (lower l) (kind ∙ e))),
       g.stage.few-columns,
-      rw ins_is (planes_room j read.order-whole read.inputs read.outputs (table j s) (small j s acc) (t j - h) a w at zs os widths words g.stage (lower l)),
+      rw ins_is (planes_room j read.order-whole read.inputs read.outputs (table j s) (small j s acc) k a w at zs os widths words g.stage (lower l)),
       g.links,
       nodes_above_lem l,
     )
 
-    module _ (r : ℕ) (er : r ≡ cond (leb (length (firsts_below input a' (h - 1 - a') (size a') w zs os)) 512) (length (cliques_below input a' (h - 1 - a') (size a') w zs os)) 513) where
-      er_is : r ≡ cond (leb (length (firsts_below input (ins j H) (outs j H) (size (ins j H)) w zs os)) 512) (length (cliques_below input (ins j H) (outs j H) (size (ins j H)) w zs os)) 513
-      er_is = rw (outs_is, ins_is) at er
+    pub stops : (x : Refusal) → ◌≡◌ {A = Result ℕ Refusal} (Err x) (narrow_or (length (firsts_below input a' (t j - 1 - k - a') (size a') w zs os)) (length (cliques_below input a' (t j - 1 - k - a') (size a') w zs os)))
+        → ◌≡◌ {A = Result ℕ Refusal} (Err x) (cond (refuse7 j (table j s)) (Err TooWide) (Ok (length (final_nodes j s)))) × (refuse7 j (table j s) ≡ true)
+    stops x e =
+        let many : 512 < length (firsts_below input a' (t j - 1 - k - a') (size a') w zs os) = many-before (length (firsts_below input a' (t j - 1 - k - a') (size a') w zs os)) (length (cliques_below input a' (t j - 1 - k - a') (size a') w zs os)) x e in
+        let wide =
+        wide_refused j s acc k (lower l)
+        (too_wide_lem j read.order-whole read.inputs read.outputs (table j s) (small j s acc) k a w at zs os widths words g.stage (lower l) input kind (rw (outs_is, ins_is) at many)) in
+        (ap Err (refused-wide (length (firsts_below input a' (t j - 1 - k - a') (size a') w zs os)) (length (cliques_below input a' (t j - 1 - k - a') (size a') w zs os)) x e) ∙ sym (cond_yes (refuse7 j (table j s)) (Err TooWide) (Ok (length (final_nodes j s))) wide), wide)
 
-      pub stops : 512 < r → refuse7 j (table j s) ≡ true
-      stops wide =
-          wide_refused j s acc (t j - h) (lower l)
-          (too_wide_lem j read.order-whole read.inputs read.outputs (table j s) (small j s acc) (t j - h) a w at zs os widths words g.stage (lower l) input kind r er_is wide)
+    module _ (r : ℕ) (er : ◌≡◌ {A = Result ℕ Refusal} (Ok r) (narrow_or (length (firsts_below input a' (t j - 1 - k - a') (size a') w zs os)) (length (cliques_below input a' (t j - 1 - k - a') (size a') w zs os)))) where
+      fine : length (firsts_below input a' (t j - 1 - k - a') (size a') w zs os) ≤ 512
+      fine = few-before (length (firsts_below input a' (t j - 1 - k - a') (size a') w zs os)) r (length (cliques_below input a' (t j - 1 - k - a') (size a') w zs os)) er
 
-      module _ (narrow : r ≤ 512) (r16 : ℕ) (e16 : r16 ≡ r) (zs' os' link' words' : List ℕ)
-          (ez : zs' ≡ product_below input a' (h - 1 - a') (size a') w zs os zs zs) (eo : os' ≡ product_below input a' (h - 1 - a') (size a') w zs os os os)
-          (ew : words' ≡ sets words (at * 3) (node_words (nodes_over input a' (h - 1 - a') (size a') w zs os (h - 1 + 1) (cond (eqb (h - 1) 0) 1 (2 + (at + w))))))
+      answer : r ≡ length (cliques_below input a' (t j - 1 - k - a') (size a') w zs os)
+      answer = answer-is (length (firsts_below input a' (t j - 1 - k - a') (size a') w zs os)) r (length (cliques_below input a' (t j - 1 - k - a') (size a') w zs os)) er
+
+      pub answer-fits : r < 65536
+      answer-fits = omega (arith, fine, answer, cliques_fit input a' (t j - 1 - k - a') (size a') w zs os height_needs.3 height_needs.4)
+
+      module _ (r16 : ℕ) (e16 : r16 ≡ r) (zs' os' link' words' : List ℕ)
+          (ez : zs' ≡ product_below input a' (t j - 1 - k - a') (size a') w zs os zs zs) (eo : os' ≡ product_below input a' (t j - 1 - k - a') (size a') w zs os os os)
+          (ew : words' ≡ sets words (at * 3) (node_words (nodes_over input a' (t j - 1 - k - a') (size a') w zs os (a' + (t j - 1 - k - a') + 1) (first_node (a' + (t j - 1 - k - a')) (at + w)))))
           (el : length link' ≡ 262144) where
-        pub goes_on_lem : AtHeight j s (h - 1) a' r (at + w) zs' os' link' (set widths (h - 1) r16) words'
+        pub goes_on_lem : AtHeight j s (k + 1) a' r (at + w) zs' os' link' (set widths (t j - 1 - k) r16) words'
         goes_on_lem =
-            let top : h - 1 + 1 ≡ suc H = omega arith in
-            let more : t j - (h - 1) ≡ suc (t j - h) = omega arith in
+            let here : a' + (t j - 1 - k - a') ≡ H = omega (arith, ins_is, ins-outs j H, height) in
+            let top : H + 1 ≡ suc H = add-one H in
+            let more : k + 1 ≡ suc k = add-one k in
             record {
               accepted = acc;
               stage =
                   rw (more, ins_is, height, e16)
-                  (next j read.order-whole read.inputs read.outputs (table j s) (small j s acc) (t j - h) a w at zs os widths words g.stage (lower l)
-                  input kind r er_is narrow zs' os' words' (rw (outs_is, ins_is) at ez) (rw (outs_is, ins_is) at eo) (rw (outs_is, ins_is, top, height) at ew));
+                  (next j read.order-whole read.inputs read.outputs (table j s) (small j s acc) k a w at zs os widths words g.stage (lower l)
+                  input kind (rw (outs_is, ins_is) at fine) r (rw (outs_is, ins_is) at answer) zs' os' words' (rw (outs_is, ins_is) at ez) (rw (outs_is, ins_is) at eo) (rw (here, top, outs_is, ins_is) at ew));
               links = el;
               within = omega arith;
             }
 
   -- the end of the pass
-  module _ (z : h ≤ 0) where
+  module _ (z : t j ≤ k) where
     done : At j s acc (t j) a w at zs os widths words
-    done = let e : t j - h ≡ t j = omega arith in rw e at g.stage
+    done = let e : k ≡ t j = omega arith in rw e at g.stage
 
     narrow-all : refuse7 j (table j s) ≡ false
     narrow-all = end_narrow j s acc a w at zs os widths words done
 
-    pub end_answer : Answered j s at widths words
+    pub end_answer : Answered j s (Ok at) widths words
     end_answer = (
-      end_count j s acc a w at zs os widths words done ∙ sym (cond_no (refuse7 j (table j s)) 10241 (length (final_nodes j s)) narrow-all),
+      ap Ok (end_count j s acc a w at zs os widths words done) ∙ sym (cond_no (refuse7 j (table j s)) (Err TooWide) (Ok (length (final_nodes j s))) narrow-all),
       (λ e. (end_widths j s acc a w at zs os widths words done, end_words j s acc a w at zs os widths words done)),
     )
 
-pub less : (h : ℕ) → 0 < h → h - 1 < h
-less h l = omega arith
-
-pub narrow-fits : (r : ℕ) → r ≤ 512 → r < 65536
-narrow-fits r h = omega arith
-
 -- the number answered
 module _ (j : Job) (s : List ℕ) where
-  pub wide_answer : refuse7 j (table j s) ≡ true → 10241 ≡ cond (refuse7 j (table j s)) 10241 (length (final_nodes j s))
-  wide_answer wide = sym (cond_yes (refuse7 j (table j s)) 10241 (length (final_nodes j s)) wide)
+  pub over : (x : Refusal) → ◌≡◌ {A = Result ℕ Refusal} (Err x) (cond (refuse7 j (table j s)) (Err TooWide) (Ok (length (final_nodes j s)))) → (x ≡ TooWide) × (refuse7 j (table j s) ≡ true)
+  over x is =
+      by_test (refuse7 j (table j s)) (λ e. (cc (is, cond_yes {A = Result ℕ Refusal} (refuse7 j (table j s)) (Err TooWide) (Ok (length (final_nodes j s))) e), e))
+      (λ e. cc (is, cond_no {A = Result ℕ Refusal} (refuse7 j (table j s)) (Err TooWide) (Ok (length (final_nodes j s))) e))
 
-  module _ (acc : sheet_refusal j s ≡ 0) (r : ℕ) (is : r ≡ cond (refuse7 j (table j s)) 10241 (length (final_nodes j s))) where
-    pub made : refuse7 j (table j s) ≡ false → r ≡ length (final_nodes j s)
-    made e = is ∙ cond_no (refuse7 j (table j s)) 10241 (length (final_nodes j s)) e
+  pub not_over : (r : ℕ) → ◌≡◌ {A = Result ℕ Refusal} (Ok r) (cond (refuse7 j (table j s)) (Err TooWide) (Ok (length (final_nodes j s)))) → (r ≡ length (final_nodes j s)) × (refuse7 j (table j s) ≡ false)
+  not_over r is =
+      by_test (refuse7 j (table j s)) (λ e. cc (is, cond_yes {A = Result ℕ Refusal} (refuse7 j (table j s)) (Err TooWide) (Ok (length (final_nodes j s))) e))
+      (λ e. (cc (is, cond_no {A = Result ℕ Refusal} (refuse7 j (table j s)) (Err TooWide) (Ok (length (final_nodes j s))) e), e))
 
-    pub over : 10240 < r → refuse7 j (table j s) ≡ true
-    unfolding final_nodes final_table
-    over h = by_test (refuse7 j (table j s)) (λ e. e) (λ e. absurd (omega (arith, made e, nodes_fit j s acc e)))
-
-    pub not_over : r ≤ 10240 → refuse7 j (table j s) ≡ false
-    not_over h =
-        by_test (refuse7 j (table j s))
-        (λ e. let z : r ≡ 10241 = is ∙ cond_yes (refuse7 j (table j s)) 10241 (length (final_nodes j s)) e in absurd (omega arith))
-        (λ e. e)
+  pub nodes_16 : sheet_refusal j s ≡ 0 → refuse7 j (table j s) ≡ false → length (final_nodes j s) < 65536
+  unfolding final_nodes final_table
+  nodes_16 acc e = omega (arith, nodes_fit j s acc e)

@@ -13,8 +13,8 @@ returns-then-height-le20 c =
     c.compatible_nodes.ensures
     ∙ sym (ap (λ (b : Bool). b && compatible_nodes a.words.now a.height a.v a.u) (le-leb a.height 20 c.if-height-le20.true))
 
-pub returns : goal.returns
+pub returns-else-height-le20 : goal.returns-else-height-le20
 unfolding compatible_columns
-returns c =
+returns-else-height-le20 c =
     let a = c.args in
-    sym (ap (λ (b : Bool). b && compatible_nodes a.words.now a.height a.v a.u) (lt-leb a.height 20 c.if-height-le20.false))
+    lt-leb a.height 20 c.if-height-le20.false ∙ sym (ap (λ (b : Bool). b && compatible_nodes a.words.now a.height a.v a.u) (lt-leb a.height 20 c.if-height-le20.false))

@@ -1,24 +1,18 @@
 -- `walks::descent` meets its contract.
 -- Assumes nothing.
 use mathlib.Core.Path.{sym}
-use Prim.Native.Nat.{◌-◌}
 use borrow.Author.Tests.{lt-leb}
-use borrow.Author.Rules.{rules}
 use lib.Dec.{leb}
-use lib.Pow.{pow_pos}
 use Rattle.laws.proofs.Cases.{cond_no}
 use Rattle.reduction_spec.specs.Descent.{reached, descent}
 use Rattle.reduction_spec.proofs.DescentSteps.{descent-within}
 use Rattle.walks.proofs.descent.Goals as goal
 
-pub descend-requires : goal.descend-requires
-descend-requires c = (search rules, pow_pos (20 - c.less.result))
-
 pub returns-then-top-le20 : goal.returns-then-top-le20
 returns-then-top-le20 c =
     let a = c.args in
     descent-within a.words.now a.order.now a.top a.bottom a.node a.inputs a.count
-    c.less.result c.descend.result c.if-top-le20.true c.less.ensures c.descend.ensures
+    c.saturating_sub.result c.descend.result c.if-top-le20.true c.saturating_sub.ensures c.descend.ensures
 
 pub returns : goal.returns
 unfolding descent

@@ -17,14 +17,14 @@ more link base tally i = get_or tally i 0 + flag (is_in link (base + i))
 pub loop-d-init : goal.loop-d-init
 loop-d-init c =
     let a = c.args in
-    (omega arith, sym (puts_none (more a.link.now a.base a.tally.now) a.tally.now))
+    sym (puts_none (more a.link.now a.base a.tally.now) a.tally.now)
 
 pub overflow_add-tally : goal.overflow_add-tally
 overflow_add-tally c =
     let l = c.loop-d in
     let a = c.args in
     let old : get_or l.tally l.d 0 ≡ get_or a.tally.now l.d 0 =
-    ap (λ (s : List ℕ). get_or s l.d 0) l.invariant.1 ∙ get_or_unput (more a.link.now a.base a.tally.now) l.d a.tally.now 0 l.d (omega arith) in
+    ap (λ (s : List ℕ). get_or s l.d 0) l.invariant ∙ get_or_unput (more a.link.now a.base a.tally.now) l.d a.tally.now 0 l.d (omega arith) in
     omega (arith, old, c.requires.2 l.d (omega arith), c.one.ensures.1)
 
 pub loop-d-preserved : goal.loop-d-preserved
@@ -33,11 +33,5 @@ loop-d-preserved c =
     let a = c.args in
     let g = more a.link.now a.base a.tally.now in
     let old : get_or l.tally l.d 0 ≡ get_or a.tally.now l.d 0 =
-    ap (λ (s : List ℕ). get_or s l.d 0) l.invariant.1 ∙ get_or_unput g l.d a.tally.now 0 l.d (omega arith) in
-    (omega arith, puts-next g l.d a.tally.now l.tally _ l.invariant.1 (ap₂ (λ (x y : ℕ). x + y) old c.one.ensures.0))
-
-pub returns : goal.returns
-returns c =
-    let l = c.loop-d in
-    let e : l.d ≡ c.args.w = omega arith in
-    rw e at l.invariant.1
+    ap (λ (s : List ℕ). get_or s l.d 0) l.invariant ∙ get_or_unput g l.d a.tally.now 0 l.d (omega arith) in
+    puts-next g l.d a.tally.now l.tally _ l.invariant (ap₂ (λ (x y : ℕ). x + y) old c.one.ensures.0)

@@ -1,8 +1,7 @@
 -- `reduction::cover::degree` meets its contract.
 -- Assumes nothing.
 use mathlib.Core.Path.{◌≡◌, sym, ◌∙◌, ap₂}
-use Prim.Native.Nat.{ℕ, ◌≤◌, ◌-◌, ◌+◌, ◌*◌}
-use native.Mathlib.Nat.{mul-le-mul_right}
+use Prim.Native.Nat.{ℕ, ◌-◌, ◌+◌, ◌*◌}
 use native.Mathlib.Omega.{arith}
 use Rattle.laws.specs.Tests.{sum}
 use Rattle.laws.specs.Bits.{flag}
@@ -11,42 +10,12 @@ use Rattle.reduction_spec.specs.Cover.{is_in}
 use Rattle.reduction.specs.RunningKeys.{degree}
 use Rattle.reduction.proofs.cover.degree.Goals as goal
 
-pub overflow_mul-base : goal.overflow_mul-base
-overflow_mul-base c =
-    let a = c.args in
-    let h : a.c ≤ 511 = omega arith in
-    omega (arith, mul-le-mul_right a.w h)
-
-pub overflow_add-base : goal.overflow_add-base
-overflow_add-base c =
-    let a = c.args in
-    let h : a.c ≤ 511 = omega arith in
-    omega (arith, mul-le-mul_right a.w h)
-
-pub bounds-link-base : goal.bounds-link-base
-bounds-link-base c =
-    let a = c.args in
-    let h : a.c ≤ 511 = omega arith in
-    omega (arith, mul-le-mul_right a.w h)
-
 pub loop-d-preserved : goal.loop-d-preserved
 loop-d-preserved c =
     let l = c.loop-d in
     let a = c.args in
     let f : ℕ → ℕ = λ i. flag (is_in a.link.now (a.c * a.w + i)) in
-    (omega arith, omega (arith, c.one-n.ensures.1), ap₂ (λ (x y : ℕ). x + y) l.invariant.2 c.one-n.ensures.0 ∙ sym (sum-next f l.d))
-
-pub overflow_add-base-2 : goal.overflow_add-base-2
-overflow_add-base-2 c =
-    let a = c.args in
-    let h : a.c ≤ 511 = omega arith in
-    omega (arith, mul-le-mul_right a.w h)
-
-pub bounds-link-base-2 : goal.bounds-link-base-2
-bounds-link-base-2 c =
-    let a = c.args in
-    let h : a.c ≤ 511 = omega arith in
-    omega (arith, mul-le-mul_right a.w h)
+    (omega (arith, c.one-n.ensures.1), ap₂ (λ (x y : ℕ). x + y) l.invariant.1 c.one-n.ensures.0 ∙ sym (sum-next f l.d))
 
 pub overflow_sub-result : goal.overflow_sub-result
 overflow_sub-result c =
@@ -54,7 +23,7 @@ overflow_sub-result c =
     let a = c.args in
     let f : ℕ → ℕ = λ i. flag (is_in a.link.now (a.c * a.w + i)) in
     let e : l.d ≡ a.w = omega arith in
-    let n : l.n ≡ sum a.w f = rw e at l.invariant.2 in
+    let n : l.n ≡ sum a.w f = rw e at l.invariant.1 in
     let o : c.one.result ≡ f a.c = c.one.ensures.0 in
     omega (arith, sum_at f a.w a.c (omega arith))
 
@@ -65,6 +34,6 @@ returns c =
     let a = c.args in
     let f : ℕ → ℕ = λ i. flag (is_in a.link.now (a.c * a.w + i)) in
     let e : l.d ≡ a.w = omega arith in
-    let n : l.n ≡ sum a.w f = rw e at l.invariant.2 in
+    let n : l.n ≡ sum a.w f = rw e at l.invariant.1 in
     let o : c.one.result ≡ f a.c = c.one.ensures.0 in
     (ap₂ (λ (x y : ℕ). x - y) n o, omega arith)

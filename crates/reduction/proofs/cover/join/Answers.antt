@@ -12,4 +12,4 @@ pub returns : goal.returns
 unfolding joining kept_keys
 returns c =
     let a = c.args in
-    same_growth (ap (λ (l : List ℕ). set l a.u gone) c.keep.ensures) (ap (set a.members.now a.count) c.narrow16.ensures) refl
+    same_growth (ap (λ (l : List ℕ). set l a.u gone) c.keep.ensures) refl refl

@@ -12,7 +12,7 @@ use Rattle.reduction.proofs.cover.keep.Goals as goal
 pub loop-d-init : goal.loop-d-init
 loop-d-init c =
     let a = c.args in
-    (omega arith, sym (puts_none (λ i. keeping (get_or a.link.now (a.base + i) 0) (get_or a.cand.now i 0)) a.cand.now))
+    sym (puts_none (λ i. keeping (get_or a.link.now (a.base + i) 0) (get_or a.cand.now i 0)) a.cand.now)
 
 pub loop-d-preserved : goal.loop-d-preserved
 loop-d-preserved c =
@@ -20,11 +20,5 @@ loop-d-preserved c =
     let a = c.args in
     let g : ℕ → ℕ = λ i. keeping (get_or a.link.now (a.base + i) 0) (get_or a.cand.now i 0) in
     let old : get_or l.cand l.d 0 ≡ get_or a.cand.now l.d 0 =
-    ap (λ (s : List ℕ). get_or s l.d 0) l.invariant.1 ∙ get_or_unput g l.d a.cand.now 0 l.d (omega arith) in
-    (omega arith, puts-next g l.d a.cand.now l.cand _ l.invariant.1 (c.keeping.ensures ∙ ap (keeping (get_or a.link.now (a.base + l.d) 0)) old))
-
-pub returns : goal.returns
-returns c =
-    let l = c.loop-d in
-    let e : l.d ≡ c.args.w = omega arith in
-    rw e at l.invariant.1
+    ap (λ (s : List ℕ). get_or s l.d 0) l.invariant ∙ get_or_unput g l.d a.cand.now 0 l.d (omega arith) in
+    puts-next g l.d a.cand.now l.cand _ l.invariant (c.keeping.ensures ∙ ap (keeping (get_or a.link.now (a.base + l.d) 0)) old)

@@ -12,7 +12,7 @@ use Rattle.reduction.proofs.cover.lower.Goals as goal
 pub loop-c-init : goal.loop-c-init
 loop-c-init c =
     let a = c.args in
-    (omega arith, sym (puts_none (λ i. fewer_by (get_or a.tally.now i 0) (get_or a.keys.now i 0)) a.keys.now))
+    sym (puts_none (λ i. fewer_by (get_or a.tally.now i 0) (get_or a.keys.now i 0)) a.keys.now)
 
 pub loop-c-preserved : goal.loop-c-preserved
 loop-c-preserved c =
@@ -20,11 +20,5 @@ loop-c-preserved c =
     let a = c.args in
     let g : ℕ → ℕ = λ i. fewer_by (get_or a.tally.now i 0) (get_or a.keys.now i 0) in
     let old : get_or l.keys l.c 0 ≡ get_or a.keys.now l.c 0 =
-    ap (λ (s : List ℕ). get_or s l.c 0) l.invariant.1 ∙ get_or_unput g l.c a.keys.now 0 l.c (omega arith) in
-    (omega arith, puts-next g l.c a.keys.now l.keys _ l.invariant.1 (c.fewer_by.ensures ∙ ap (fewer_by (get_or a.tally.now l.c 0)) old))
-
-pub returns : goal.returns
-returns c =
-    let l = c.loop-c in
-    let e : l.c ≡ c.args.w = omega arith in
-    rw e at l.invariant.1
+    ap (λ (s : List ℕ). get_or s l.c 0) l.invariant ∙ get_or_unput g l.c a.keys.now 0 l.c (omega arith) in
+    puts-next g l.c a.keys.now l.keys _ l.invariant (c.fewer_by.ensures ∙ ap (fewer_by (get_or a.tally.now l.c 0)) old)

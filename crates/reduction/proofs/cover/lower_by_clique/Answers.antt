@@ -10,35 +10,24 @@ use Rattle.reduction.proofs.cover.lower_by_clique.Goals as goal
 pub loop-i-init : goal.loop-i-init
 loop-i-init c =
     let a = c.args in
-    (omega arith, tally_none a.w a.link.now a.members.now c.requires.0)
-
-pub overflow_mul-wide16 : goal.overflow_mul-wide16
-overflow_mul-wide16 c =
-    let l = c.loop-i in
-    let a = c.args in
-    let p = c.requires in
-    let h : c.wide16.result ≤ 511 = omega (arith, c.wide16.ensures.0, p.2 l.i (omega arith)) in
-    omega (arith, p.0, mul-le-mul_right a.w h)
+    tally_none a.w a.link.now a.members.now c.requires.0
 
 pub add_line-requires : goal.add_line-requires
 add_line-requires c =
     let l = c.loop-i in
     let a = c.args in
     let p = c.requires in
-    let u = c.wide16 in
-    let h : u.result ≤ 511 = omega (arith, u.ensures.0, p.2 l.i (omega arith)) in
-    (p.0, omega (arith, p.0, mul-le-mul_right a.w h), tally_few a.w a.link.now a.members.now p.0 l.i l.tally l.invariant.1 (omega arith))
+    let u = c.from in
+    let h : u.result ≤ 511 = omega (arith, u.ensures, p.2 l.i (omega arith)) in
+    (p.0, omega (arith, p.0, mul-le-mul_right a.w h), tally_few a.w a.link.now a.members.now p.0 l.i l.tally l.invariant (omega arith))
 
 pub loop-i-preserved : goal.loop-i-preserved
 loop-i-preserved c =
     let l = c.loop-i in
     let a = c.args in
     let p = c.requires in
-    let u = ap (λ (x : ℕ). x * a.w) c.wide16.ensures.0 in
-    (omega arith, tally_next a.w a.link.now a.members.now p.0 l.i _ l.tally _ u l.invariant.1 c.add_line.ensures)
-
-pub lower-requires : goal.lower-requires
-lower-requires c = c.requires.0
+    let u = ap (λ (x : ℕ). x * a.w) c.from.ensures in
+    tally_next a.w a.link.now a.members.now p.0 l.i _ l.tally _ u l.invariant c.add_line.ensures
 
 pub returns : goal.returns
 returns c =
@@ -46,5 +35,5 @@ returns c =
     let a = c.args in
     let p = c.requires in
     let e : l.i ≡ a.count = omega arith in
-    let all : l.tally ≡ tallied a.w a.link.now a.members.now a.count = rw e at l.invariant.1 in
+    let all : l.tally ≡ tallied a.w a.link.now a.members.now a.count = rw e at l.invariant in
     tally_lowers a.w a.link.now a.members.now p.0 a.count a.keys.now l.tally _ all c.lower.ensures

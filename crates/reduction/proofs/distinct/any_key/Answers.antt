@@ -15,7 +15,7 @@ pub loop-c-preserved : goal.loop-c-preserved
 loop-c-preserved c =
     let l = c.loop-c in
     let a = c.args in
-    (omega arith, any_flag (λ i. eqb (get_or a.keys.now i 0) a.k) l.c l.found c.hit-found.result l.invariant.1 c.hit-found.ensures)
+    any_flag (λ i. eqb (get_or a.keys.now i 0) a.k) l.c l.found c.hit-found.result l.invariant c.hit-found.ensures
 
 pub returns : goal.returns
 returns c =
@@ -23,4 +23,4 @@ returns c =
     let a = c.args in
     let f : ℕ → Bool = λ i. eqb (get_or a.keys.now i 0) a.k in
     let e : l.c ≡ a.count = omega arith in
-    ap (λ (x : ℕ). eqb x 1) l.invariant.1 ∙ flag_is (any l.c f) ∙ ap (λ (n : ℕ). any n f) e
+    ap (λ (x : ℕ). eqb x 1) l.invariant ∙ flag_is (any l.c f) ∙ ap (λ (n : ℕ). any n f) e

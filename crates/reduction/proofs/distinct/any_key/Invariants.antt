@@ -1,7 +1,6 @@
 -- `reduction::distinct::any_key` meets its contract.
 -- Assumes nothing.
 use mathlib.Core.Path.{◌≡◌}
-use Prim.Native.Nat.{◌≤◌, ◌-◌}
 use lib.Dec.{eqb}
 use lib.ListN.{get_or}
 use Rattle.laws.specs.Tests.{any}
@@ -9,7 +8,4 @@ use Rattle.laws.specs.Bits.{flag}
 use Rattle.reduction.proofs.distinct.any_key.Given as goal
 
 abbrev pub invariant-loop-c : goal.invariant-loop-c
-invariant-loop-c l = (l.c ≤ l.count) × (l.found ≡ flag (any l.c (λ c. eqb (get_or l.keys c 0) l.k)))
-
-abbrev pub decreases-loop-c : goal.decreases-loop-c
-decreases-loop-c l = l.count - l.c
+invariant-loop-c l = l.found ≡ flag (any l.c (λ c. eqb (get_or l.keys c 0) l.k))

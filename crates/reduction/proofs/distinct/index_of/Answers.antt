@@ -7,4 +7,4 @@ use Rattle.reduction.proofs.distinct.index_of.Goals as goal
 pub returns : goal.returns
 returns c =
     let a = c.args in
-    no_key a.zero.now a.one.now a.size a.keys.now a.kept.now a.q a.k a.count (sym c.any_key.ensures ∙ c.if-any_key.false)
+    no_key a.planes.now.zero a.planes.now.one a.size a.keys.now a.kept.now a.q a.k a.count (sym c.any_key.ensures ∙ c.if-any_key.false)

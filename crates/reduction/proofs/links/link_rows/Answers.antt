@@ -1,6 +1,6 @@
 -- `reduction::links::link_rows` meets its contract.
 -- Assumes nothing.
-use mathlib.Core.Path.{◌≡◌, refl, ◌∙◌}
+use mathlib.Core.Path.{◌≡◌, ◌∙◌}
 use mathlib.Core.Bool.{Bool}
 use Prim.Native.Nat.{ℕ}
 use Rattle.laws.specs.Tests.{any}
@@ -11,25 +11,13 @@ use Rattle.reduction.specs.Distinct.{linked_words}
 use native.Mathlib.Omega.{arith}
 use Rattle.reduction.proofs.links.link_rows.Goals as goal
 
-pub loop-c-init : goal.loop-c-init
-loop-c-init c = (omega arith, refl, refl)
-
-pub link_row-found-requires : goal.link_row-found-requires
-link_row-found-requires c =
-    let p = c.requires in
-    record {
-      in_range = (c.loop-c-test.true, p.in_range.0, p.in_range.1, p.in_range.2);
-      spread = p.spread;
-    }
-
 pub loop-c-preserved : goal.loop-c-preserved
 loop-c-preserved c =
     let l = c.loop-c in
     let a = c.args in
-    let f : ℕ → ℕ → Bool = linked_words a.zero.now a.one.now a.size a.firsts.now in (
-      omega arith,
-      any_step (λ k. any a.w (f k)) l.c l.invariant.1 c.link_row-found.ensures.value,
-      c.link_row-found.ensures.link_after ∙ puts_at-rect (λ k d. flag (f k d)) a.w l.c a.link.now l.link l.invariant.2,
+    let f : ℕ → ℕ → Bool = linked_words a.planes.now.zero a.planes.now.one a.size a.firsts.now in (
+      any_step (λ k. any a.w (f k)) l.c l.invariant.0 c.link_row-found.ensures.value,
+      c.link_row-found.ensures.link_after ∙ puts_at-rect (λ k d. flag (f k d)) a.w l.c a.link.now l.link l.invariant.1,
     )
 
 pub returns : goal.returns
@@ -37,6 +25,6 @@ returns c =
     let l = c.loop-c in
     let e : l.c ≡ c.args.w = omega arith in
     record {
-      value = rw e at l.invariant.1;
-      link_after = rw e at l.invariant.2;
+      value = rw e at l.invariant.0;
+      link_after = rw e at l.invariant.1;
     }

@@ -1,20 +1,13 @@
 -- `reduction::links::raise` meets its contract.
 -- Assumes nothing.
-use mathlib.Core.Path.{◌≡◌, refl, sym}
+use mathlib.Core.Path.{refl, sym}
 use Rattle.laws.proofs.Puts.{puts_none, puts-next}
-use native.Mathlib.Omega.{arith}
 use Rattle.reduction.proofs.links.raise.Goals as goal
 
 pub loop-d-init : goal.loop-d-init
-loop-d-init c = (omega arith, sym (puts_none (λ _. 1) c.args.row.now))
+loop-d-init c = sym (puts_none (λ _. 1) c.args.row.now)
 
 pub loop-d-preserved : goal.loop-d-preserved
 loop-d-preserved c =
     let l = c.loop-d in
-    (omega arith, puts-next (λ _. 1) l.d c.args.row.now l.row 1 l.invariant.1 refl)
-
-pub returns : goal.returns
-returns c =
-    let l = c.loop-d in
-    let e : l.d ≡ c.args.w = omega arith in
-    rw e at l.invariant.1
+    puts-next (λ _. 1) l.d c.args.row.now l.row 1 l.invariant refl

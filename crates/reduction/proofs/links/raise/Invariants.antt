@@ -1,12 +1,8 @@
 -- `reduction::links::raise` meets its contract.
 -- Assumes nothing.
 use mathlib.Core.Path.{◌≡◌}
-use Prim.Native.Nat.{◌≤◌, ◌-◌}
 use Rattle.laws.specs.Lists.{puts}
 use Rattle.reduction.proofs.links.raise.Given as goal
 
 abbrev pub invariant-loop-d : goal.invariant-loop-d
-invariant-loop-d l = (l.d ≤ l.w) × (l.row ≡ puts l.d (λ _. 1) l.initial.row)
-
-abbrev pub decreases-loop-d : goal.decreases-loop-d
-decreases-loop-d l = l.w - l.d
+invariant-loop-d l = l.row ≡ puts l.d (λ _. 1) l.initial.row

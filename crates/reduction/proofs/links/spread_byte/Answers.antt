@@ -1,7 +1,7 @@
 -- `reduction::links::spread_byte` meets its contract.
 -- Assumes nothing.
 use mathlib.Core.Path.{◌≡◌, sym, ◌∙◌, ap}
-use Prim.Native.Nat.{ℕ, ◌≤◌, ◌*◌, ◌+◌}
+use Prim.Native.Nat.{ℕ, ◌*◌}
 use native.Mathlib.Nat.{not-suc-le-zero}
 use lib.ListN.{get_or}
 use Rattle.laws.proofs.Cases.{last_or_below}
@@ -13,43 +13,18 @@ use Rattle.reduction.proofs.links.spread_byte.Goals as goal
 pub loop-c-init : goal.loop-c-init
 loop-c-init c =
     let a = c.args in
-    (omega arith, sym (puts_at-none (byte_at a.words.now a.size a.firsts.now a.x) (a.x * 512) a.bytes.now), λ i k. absurd (not-suc-le-zero k))
-
-pub overflow_mul-wide16 : goal.overflow_mul-wide16
-overflow_mul-wide16 c =
-    let a = c.args in
-    let i = c.loop-c.c in
-    let s : get_or a.firsts.now i 0 * a.size + a.size ≤ 1024 = c.requires.3 i c.loop-c-test.true in
-    let k : c.wide16.result * a.size + a.size ≤ 1024 = rw c.wide16.ensures.0 s in
-    omega (arith, k, c.requires.1)
-
-pub offset_bounds-words-wide16 : goal.offset_bounds-words-wide16
-offset_bounds-words-wide16 c =
-    let a = c.args in
-    let i = c.loop-c.c in
-    let s : get_or a.firsts.now i 0 * a.size + a.size ≤ 1024 = c.requires.3 i c.loop-c-test.true in
-    let k : c.wide16.result * a.size + a.size ≤ 1024 = rw c.wide16.ensures.0 s in
-    omega (arith, k, c.requires.1)
-
-pub bounds-words-wide16 : goal.bounds-words-wide16
-bounds-words-wide16 c =
-    let a = c.args in
-    let i = c.loop-c.c in
-    let s : get_or a.firsts.now i 0 * a.size + a.size ≤ 1024 = c.requires.3 i c.loop-c-test.true in
-    let k : c.wide16.result * a.size + a.size ≤ 1024 = rw c.wide16.ensures.0 s in
-    omega (arith, k, c.requires.1)
+    (sym (puts_at-none (byte_at a.words.now a.size a.firsts.now a.x) (a.x * 512) a.bytes.now), λ i k. absurd (not-suc-le-zero k))
 
 pub loop-c-preserved : goal.loop-c-preserved
 unfolding byte_at first_word
 loop-c-preserved c =
     let l = c.loop-c in
     let a = c.args in
-    let e = c.wide16.ensures.0 in
+    let e = c.from.ensures in
     let new : c.byte_of.result ≡ byte_at a.words.now a.size a.firsts.now a.x l.c =
     c.byte_of.ensures.0 ∙ ap (λ (p : ℕ). byte_of (get_or a.words.now (p * a.size) 0) a.x) e in (
-      omega arith,
-      puts_at-next (byte_at a.words.now a.size a.firsts.now a.x) (a.x * 512) l.c a.bytes.now l.bytes _ l.invariant.1 new,
-      (λ i k. last_or_below i l.c (omega arith) (λ s. rw s (rw e at c.byte_of.ensures.1)) (λ j. l.invariant.2 i j)),
+      puts_at-next (byte_at a.words.now a.size a.firsts.now a.x) (a.x * 512) l.c a.bytes.now l.bytes _ l.invariant.0 new,
+      (λ i k. last_or_below i l.c (omega arith) (λ s. rw s (rw e at c.byte_of.ensures.1)) (λ j. l.invariant.1 i j)),
     )
 
 pub returns : goal.returns
@@ -57,6 +32,6 @@ returns c =
     let l = c.loop-c in
     let e : l.c ≡ c.args.w = omega arith in
     record {
-      bytes_after = rw e at l.invariant.1;
-      short = rw e at l.invariant.2;
+      bytes_after = rw e at l.invariant.0;
+      short = rw e at l.invariant.1;
     }

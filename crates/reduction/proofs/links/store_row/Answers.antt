@@ -13,20 +13,20 @@ pub loop-d-init : goal.loop-d-init
 unfolding marks
 loop-d-init c =
     let a = c.args in
-    (omega arith, refl, sym (puts_at-none (λ d. get_or a.row.now d 0) a.from a.link.now))
+    (refl, sym (puts_at-none (λ d. get_or a.row.now d 0) a.from a.link.now))
 
 pub loop-d-preserved : goal.loop-d-preserved
 loop-d-preserved c =
     let l = c.loop-d in
     let a = c.args in
     let f : ℕ → ℕ = λ d. get_or a.row.now d 0 in
-    (omega arith, marks-step f l.d l.left _ l.invariant.1 refl, puts_at-next f a.from l.d a.link.now l.link _ l.invariant.2 refl)
+    (marks-step f l.d l.left _ l.invariant.0 refl, puts_at-next f a.from l.d a.link.now l.link _ l.invariant.1 refl)
 
 pub returns : goal.returns
 returns c =
     let l = c.loop-d in
     let e : l.d ≡ c.args.w = omega arith in
     record {
-      value = rw e at l.invariant.1;
-      link_after = rw e at l.invariant.2;
+      value = rw e at l.invariant.0;
+      link_after = rw e at l.invariant.1;
     }

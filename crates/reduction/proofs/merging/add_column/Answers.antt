@@ -11,10 +11,7 @@ use Rattle.reduction.proofs.merging.add_column.Goals as goal
 
 pub loop-i-init : goal.loop-i-init
 loop-i-init c =
-    let a = c.args in (
-      omega arith,
-      sym (puts_at-none (λ i. bit_or (get_or a.to.now (a.number + i) 0) (get_or a.from.now (a.first + i) 0)) a.number a.to.now),
-    )
+    let a = c.args in sym (puts_at-none (λ i. bit_or (get_or a.to.now (a.number + i) 0) (get_or a.from.now (a.first + i) 0)) a.number a.to.now)
 
 pub loop-i-preserved : goal.loop-i-preserved
 loop-i-preserved c =
@@ -22,14 +19,5 @@ loop-i-preserved c =
     let a = c.args in
     let g : ℕ → ℕ = λ i. bit_or (get_or a.to.now (a.number + i) 0) (get_or a.from.now (a.first + i) 0) in
     let old : get_or l.to (a.number + l.i) 0 ≡ get_or a.to.now (a.number + l.i) 0 =
-    ap (λ (s : List ℕ). get_or s (a.number + l.i) 0) l.invariant.1
-    ∙ get_or_unput_at g a.number l.i a.to.now 0 (a.number + l.i) (omega arith) in (
-      omega arith,
-      puts_at-next g a.number l.i a.to.now l.to _ l.invariant.1 (ap (λ (x : ℕ). bit_or x (get_or a.from.now (a.first + l.i) 0)) old),
-    )
-
-pub returns : goal.returns
-returns c =
-    let l = c.loop-i in
-    let e : l.i ≡ c.args.size = omega arith in
-    rw e at l.invariant.1
+    ap (λ (s : List ℕ). get_or s (a.number + l.i) 0) l.invariant
+    ∙ get_or_unput_at g a.number l.i a.to.now 0 (a.number + l.i) (omega arith) in puts_at-next g a.number l.i a.to.now l.to _ l.invariant (ap (λ (x : ℕ). bit_or x (get_or a.from.now (a.first + l.i) 0)) old)

@@ -1,22 +1,15 @@
 -- `reduction::merging::clear` meets its contract.
 -- Assumes nothing.
-use mathlib.Core.Path.{◌≡◌, refl, sym}
+use mathlib.Core.Path.{refl, sym}
 use Prim.Native.Nat.{ℕ}
 use Rattle.laws.proofs.Puts.{puts_none, puts-next}
-use native.Mathlib.Omega.{arith}
 use Rattle.reduction.proofs.merging.clear.Goals as goal
 
 pub loop-i-init : goal.loop-i-init
-loop-i-init c = (omega arith, sym (puts_none (λ (i : ℕ). 0) c.args.plane.now))
+loop-i-init c = sym (puts_none (λ (i : ℕ). 0) c.args.plane.now)
 
 pub loop-i-preserved : goal.loop-i-preserved
 loop-i-preserved c =
     let l = c.loop-i in
     let a = c.args in
-    (omega arith, puts-next (λ (i : ℕ). 0) l.i a.plane.now l.plane _ l.invariant.1 refl)
-
-pub returns : goal.returns
-returns c =
-    let l = c.loop-i in
-    let e : l.i ≡ 1024 = omega arith in
-    rw e at l.invariant.1
+    puts-next (λ (i : ℕ). 0) l.i a.plane.now l.plane _ l.invariant refl

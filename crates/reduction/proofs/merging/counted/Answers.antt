@@ -2,13 +2,10 @@
 -- Assumes nothing.
 use mathlib.Core.Path.{sym}
 use Prim.Native.Nat.{◌+◌}
-use borrow.Author.Tests.{eq-eqb, ne_eqb}
+use borrow.Author.Tests.{eq-eqb}
 use lib.Dec.{eqb}
-use Rattle.laws.proofs.Cases.{cond_yes, cond_no}
+use Rattle.laws.proofs.Cases.{cond_yes}
 use Rattle.reduction.proofs.merging.counted.Goals as goal
 
 pub returns-then-s-eq0 : goal.returns-then-s-eq0
 returns-then-s-eq0 c = let a = c.args in sym (cond_yes (eqb a.s 0) (a.count + 1) a.count (eq-eqb a.s 0 c.if-s-eq0.true))
-
-pub returns : goal.returns
-returns c = let a = c.args in sym (cond_no (eqb a.s 0) (a.count + 1) a.count (ne_eqb a.s 0 c.if-s-eq0.false))

@@ -1,7 +1,6 @@
 -- `reduction::merging::renumber` meets its contract.
 -- Assumes nothing.
 use mathlib.Core.Path.{◌≡◌}
-use Prim.Native.Nat.{◌≤◌, ◌-◌}
 use lib.ListN.{length}
 use Rattle.laws.specs.Lists.{puts}
 use Rattle.reduction_spec.specs.Numbering.{index_in, firsts_of}
@@ -11,8 +10,5 @@ use Rattle.reduction.proofs.merging.renumber.Given as goal
 
 abbrev pub invariant-loop-c : goal.invariant-loop-c
 invariant-loop-c l =
-    (l.c ≤ l.w) × (l.count ≡ length (firsts_of (same_owner l.owner) l.c)) × (Marks l.owner (firsts_of (same_owner l.owner) l.c) l.seen)
+    (l.count ≡ length (firsts_of (same_owner l.owner) l.c)) × (Marks l.owner (firsts_of (same_owner l.owner) l.c) l.seen)
     × (l.nums ≡ puts l.c (λ c. index_in (same_owner l.owner) (firsts_of (same_owner l.owner) c) c) l.initial.nums)
-
-abbrev pub decreases-loop-c : goal.decreases-loop-c
-decreases-loop-c l = l.w - l.c

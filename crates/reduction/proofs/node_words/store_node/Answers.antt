@@ -11,4 +11,4 @@ returns c =
     let a = c.args in
     let p : a.i * 3 + 1 ≡ suc (a.i * 3) = omega arith in
     let q : a.i * 3 + 2 ≡ suc (suc (a.i * 3)) = omega arith in
-    ap₂ (λ (m n : ℕ). set (set (set a.words.now (a.i * 3) a.height) m a.low) n a.high) p q
+    ap₂ (λ (m n : ℕ). set (set (set a.words.now (a.i * 3) a.node.height) m a.node.low) n a.node.high) p q

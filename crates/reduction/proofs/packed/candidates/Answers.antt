@@ -14,28 +14,28 @@ use Rattle.reduction.proofs.packed.candidates.Goals as goal
 pub halves-requires : goal.halves-requires
 halves-requires c =
     let a = c.args in
-    let h : 2 ^ a.a < 8 = pow-lt c.if-a-lt3.true in
+    let h : 2 ^ a.here.now.a < 8 = pow-lt c.if-here-lt3.true in
     (c.requires.1, omega arith)
 
-pub returns-then-a-lt3 : goal.returns-then-a-lt3
+pub returns-then-here-lt3 : goal.returns-then-here-lt3
 unfolding candidates_of
-returns-then-a-lt3 c =
+returns-then-here-lt3 c =
     let a = c.args in
-    let h : 2 ^ a.a < 8 = pow-lt c.if-a-lt3.true in
-    let e : 8 * 2 ^ a.a % 2 ^ 64 ≡ 8 * 2 ^ a.a = omega arith in
-    rw (c.if-input.true, lt-ltb a.a 3 c.if-a-lt3.true)
-    (c.halves.ensures ∙ ap (λ (s : ℕ). puts (a.w * 2) (λ q. half s (get_or a.from.now (q / 2) 0) (q % 2)) a.to.now) e)
+    let h : 2 ^ a.here.now.a < 8 = pow-lt c.if-here-lt3.true in
+    let e : 8 * 2 ^ a.here.now.a % 2 ^ 64 ≡ 8 * 2 ^ a.here.now.a = omega arith in
+    rw (c.if-here.true, lt-ltb a.here.now.a 3 c.if-here-lt3.true)
+    (c.halves.ensures ∙ ap (λ (s : ℕ). puts (a.here.now.w * 2) (λ q. half s (get_or a.from.now (q / 2) 0) (q % 2)) a.to.now) e)
 
-pub returns-then-input : goal.returns-then-input
+pub returns-then-here : goal.returns-then-here
 unfolding candidates_of
-returns-then-input c =
+returns-then-here c =
     let a = c.args in
-    rw (c.if-input.true, le-ltb a.a 3 (omega (arith, c.if-a-lt3.false)))
-    (c.keep_bits.ensures ∙ ap (λ (s : ℕ). puts (a.w * 2 * a.size) (λ i. bit_and (get_or a.from.now i 0) s) a.to.now) c.lines_mask.ensures)
+    rw (c.if-here.true, le-ltb a.here.now.a 3 (omega (arith, c.if-here-lt3.false)))
+    (c.keep_bits.ensures ∙ ap (λ (s : ℕ). puts (a.here.now.w * 2 * a.here.now.size) (λ i. bit_and (get_or a.from.now i 0) s) a.to.now) c.lines_mask.ensures)
 
 pub returns : goal.returns
 unfolding candidates_of
 returns c =
     let a = c.args in
-    rw c.if-input.false
-    (c.keep_bits-2.ensures ∙ ap (λ (s : ℕ). puts (a.w * a.size) (λ i. bit_and (get_or a.from.now i 0) s) a.to.now) c.lines_mask-2.ensures)
+    rw c.if-here.false
+    (c.keep_bits-2.ensures ∙ ap (λ (s : ℕ). puts (a.here.now.w * a.here.now.size) (λ i. bit_and (get_or a.from.now i 0) s) a.to.now) c.lines_mask-2.ensures)

@@ -6,15 +6,10 @@ use native.Mathlib.Omega.{arith}
 use borrow.Author.Tests.{eq-eqb, ne_eqb}
 use lib.Dec.{eqb}
 use lib.Bits.{bit_and, and_mask}
-use lib.Pow.{pow_pos, shl_exact}
+use lib.Pow.{shl_exact}
 use Rattle.laws.proofs.Cases.{cond_yes, cond_no}
 use Rattle.reduction.specs.Packed.{half}
 use Rattle.reduction.proofs.packed.half.Goals as goal
-
-pub overflow_sub-result : goal.overflow_sub-result
-overflow_sub-result c =
-    let e : 1 * 2 ^ c.args.s % 2 ^ 64 ≡ 1 * 2 ^ c.args.s = shl_exact 1 c.args.s 64 (omega arith) (omega (arith, c.requires)) in
-    omega (arith, e, pow_pos c.args.s)
 
 pub returns-then-b-eq0 : goal.returns-then-b-eq0
 unfolding half

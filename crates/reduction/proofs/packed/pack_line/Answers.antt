@@ -12,7 +12,7 @@ use native.Mathlib.Omega.{arith}
 use Rattle.reduction.proofs.packed.pack_line.Goals as goal
 
 pub loop-x-init : goal.loop-x-init
-loop-x-init c = let a = c.args in (omega arith, sym (puts_none (λ x. bit_or (get_or a.places.now x 0) (cond (eqb (get_or a.table.now (a.base + x) 0) a.v) a.bit 0)) a.places.now))
+loop-x-init c = let a = c.args in sym (puts_none (λ x. bit_or (get_or a.places.now x 0) (cond (eqb (get_or a.table.now (a.base + x) 0) a.v) a.bit 0)) a.places.now)
 
 pub loop-x-preserved : goal.loop-x-preserved
 loop-x-preserved c =
@@ -20,11 +20,5 @@ loop-x-preserved c =
     let a = c.args in
     let g : ℕ → ℕ = λ x. bit_or (get_or a.places.now x 0) (cond (eqb (get_or a.table.now (a.base + x) 0) a.v) a.bit 0) in
     let old : get_or l.places l.x 0 ≡ get_or a.places.now l.x 0 =
-    ap (λ (s : List ℕ). get_or s l.x 0) l.invariant.1 ∙ get_or_unput g l.x a.places.now 0 l.x (omega arith) in
-    (omega arith, puts-next g l.x a.places.now l.places _ l.invariant.1 (ap₂ bit_or old c.mark.ensures))
-
-pub returns : goal.returns
-returns c =
-    let l = c.loop-x in
-    let e : l.x ≡ c.args.count = omega arith in
-    rw e at l.invariant.1
+    ap (λ (s : List ℕ). get_or s l.x 0) l.invariant ∙ get_or_unput g l.x a.places.now 0 l.x (omega arith) in
+    puts-next g l.x a.places.now l.places _ l.invariant (ap₂ bit_or old c.mark.ensures)

@@ -2,7 +2,7 @@
 -- Assumes nothing.
 use mathlib.Core.Path.{◌≡◌}
 use mathlib.Core.Bool.{cond}
-use Prim.Native.Nat.{◌≤◌, ◌-◌, ◌+◌, ◌*◌, ◌^◌}
+use Prim.Native.Nat.{◌+◌, ◌*◌, ◌^◌}
 use lib.Dec.{eqb}
 use lib.ListN.{get_or}
 use Rattle.laws.specs.Lists.{puts}
@@ -10,7 +10,4 @@ use Rattle.laws.specs.Bits.{marks}
 use Rattle.reduction.proofs.packed.pack_lines.Given as goal
 
 abbrev pub invariant-loop-k : goal.invariant-loop-k
-invariant-loop-k l = (l.k ≤ l.m) × (l.places ≡ puts (2 ^ l.n) (λ x. marks (get_or l.initial.places x 0) (λ k. cond (eqb (get_or l.table (k * 2 ^ l.n + x) 0) l.v) (2 ^ k) 0) l.k) l.initial.places)
-
-abbrev pub decreases-loop-k : goal.decreases-loop-k
-decreases-loop-k l = l.m - l.k
+invariant-loop-k l = l.places ≡ puts (2 ^ l.n) (λ x. marks (get_or l.initial.places x 0) (λ k. cond (eqb (get_or l.table (k * 2 ^ l.n + x) 0) l.v) (2 ^ k) 0) l.k) l.initial.places

@@ -1,22 +1,15 @@
 -- `reduction::packed::pack_words` meets its contract.
 -- Assumes nothing.
-use mathlib.Core.Path.{◌≡◌, sym}
+use mathlib.Core.Path.{sym}
 use Rattle.laws.proofs.Puts.{puts_none, puts-next}
 use Rattle.reduction.specs.Packed.{packed_word}
-use native.Mathlib.Omega.{arith}
 use Rattle.reduction.proofs.packed.pack_words.Goals as goal
 
 pub loop-i-init : goal.loop-i-init
-loop-i-init c = (omega arith, sym (puts_none (packed_word c.args.places.now) c.args.words.now))
+loop-i-init c = sym (puts_none (packed_word c.args.places.now) c.args.words.now)
 
 pub loop-i-preserved : goal.loop-i-preserved
 loop-i-preserved c =
     let l = c.loop-i in
     let a = c.args in
-    (omega arith, puts-next (packed_word a.places.now) l.i a.words.now l.words _ l.invariant.1 c.packed_word.ensures)
-
-pub returns : goal.returns
-returns c =
-    let l = c.loop-i in
-    let e : l.i ≡ 512 = omega arith in
-    rw e at l.invariant.1
+    puts-next (packed_word a.places.now) l.i a.words.now l.words _ l.invariant c.packed_word.ensures

@@ -2,19 +2,14 @@
 -- Assumes nothing.
 use Prim.Native.Nat.{◌+◌, ◌-◌}
 use native.Mathlib.Omega.{arith}
-use Rattle.reduction_spec.proofs.DescentSteps.{met_still, met_twice, met_more, met_few, descend-bottom, descend-stop, descend_input, descend_forced, descend-other}
+use Rattle.reduction_spec.proofs.DescentSteps.{met_still, met_twice, met_more, descend-ended, descend_input, descend_forced, descend-other}
 use borrow.Author.Rules.{rules}
 use Rattle.walks.proofs.walks.+descend.Goals as goal
 
 pub returns-then-k-eq0 : goal.returns-then-k-eq0
 returns-then-k-eq0 t c =
     let a = c.args in
-    descend-bottom a.words.now a.order.now a.bottom a.k a.v a.x a.count a.o c.if-k-eq0.true
-
-pub returns-then-v-lt2 : goal.returns-then-v-lt2
-returns-then-v-lt2 t c =
-    let a = c.args in
-    descend-stop a.words.now a.order.now a.bottom a.k a.v a.x a.count a.o c.if-v-lt2.true
+    descend-ended a.words.now a.order.now a.bottom a.k a.v a.x a.count a.o c.then-k-eq0.either
 
 pub descend-requires : goal.descend-requires
 descend-requires t c =
@@ -26,21 +21,11 @@ pub returns-then-is_input_at : goal.returns-then-is_input_at
 returns-then-is_input_at t c =
     let a = c.args in
     descend_input a.words.now a.order.now a.bottom a.k a.v a.x a.count a.o c.if-k-eq0.false c.if-v-lt2.false
-    (c.wide.result + c.wide-2.result - 1) c.is_input_at.result
-    (omega (arith, c.wide.ensures.0, c.wide-2.ensures.0, c.if-k-eq0.false)) c.is_input_at.ensures
-    c.long16.result c.child_of-next.result c.less-left.result c.descend.result
-    c.if-is_input_at.true c.long16.ensures c.less-left.ensures
+    (c.from.result + c.from-2.result - 1) c.is_input_at.result
+    (omega (arith, c.from.ensures, c.from-2.ensures, c.if-k-eq0.false)) c.is_input_at.ensures
+    c.from-then-is_input_at.result c.child_of-next.result c.saturating_sub-left.result c.descend.result
+    c.if-is_input_at.true c.from-then-is_input_at.ensures c.saturating_sub-left.ensures
     c.child_of-next.ensures c.descend.ensures
-
-pub overflow_mul-o : goal.overflow_mul-o
-overflow_mul-o t c =
-    let a = c.args in
-    omega (arith, met_few a.k a.o c.requires.0 c.requires.1)
-
-pub overflow_add-o : goal.overflow_add-o
-overflow_add-o t c =
-    let a = c.args in
-    omega (arith, met_few a.k a.o c.requires.0 c.requires.1)
 
 pub descend-requires-then-low-eq0 : goal.descend-requires-then-low-eq0
 descend-requires-then-low-eq0 t c =
@@ -52,16 +37,11 @@ pub returns-then-low-eq0 : goal.returns-then-low-eq0
 returns-then-low-eq0 t c =
     let a = c.args in
     descend_forced a.words.now a.order.now a.bottom a.k a.v a.x a.count a.o c.if-k-eq0.false c.if-v-lt2.false
-    (c.wide.result + c.wide-2.result - 1) c.is_input_at.result
-    (omega (arith, c.wide.ensures.0, c.wide-2.ensures.0, c.if-k-eq0.false)) c.is_input_at.ensures
+    (c.from.result + c.from-2.result - 1) c.is_input_at.result
+    (omega (arith, c.from.ensures, c.from-2.ensures, c.if-k-eq0.false)) c.is_input_at.ensures
     c.low_of-low.result c.high_of-high.result c.descend-then-low-eq0.result
     c.if-is_input_at.false c.low_of-low.ensures c.if-low-eq0.true
     c.high_of-high.ensures c.descend-then-low-eq0.ensures
-
-pub overflow_mul-o-2 : goal.overflow_mul-o-2
-overflow_mul-o-2 t c =
-    let a = c.args in
-    omega (arith, met_few a.k a.o c.requires.0 c.requires.1)
 
 pub descend-requires-2 : goal.descend-requires-2
 descend-requires-2 t c =
@@ -73,7 +53,7 @@ pub returns : goal.returns
 returns t c =
     let a = c.args in
     descend-other a.words.now a.order.now a.bottom a.k a.v a.x a.count a.o c.if-k-eq0.false c.if-v-lt2.false
-    (c.wide.result + c.wide-2.result - 1) c.is_input_at.result
-    (omega (arith, c.wide.ensures.0, c.wide-2.ensures.0, c.if-k-eq0.false)) c.is_input_at.ensures
+    (c.from.result + c.from-2.result - 1) c.is_input_at.result
+    (omega (arith, c.from.ensures, c.from-2.ensures, c.if-k-eq0.false)) c.is_input_at.ensures
     c.low_of-low.result c.descend-2.result c.if-is_input_at.false c.low_of-low.ensures
     c.if-low-eq0.false c.descend-2.ensures

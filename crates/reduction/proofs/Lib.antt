@@ -1,0 +1,3 @@
+-- Lemmas that proofs of several modules use.
+pub mod Narrow
+pub mod StdSteps
