@@ -1,16 +1,17 @@
 -- Where the cells ended by a reading of stored records lie: one record more, and all records read.
 -- Assumes nothing.
 use mathlib.Core.Path.{◌≡◌, refl, sym, ◌∙◌, ap, ap₂}
-use mathlib.Core.Bool.{Bool, true, false, cond, ◌&&◌}
+use mathlib.Core.Bool.{Bool, true, false, cond, ◌&&◌, and-false}
 use mathlib.Core.List.{List, [], ◌∷◌, ◌++◌}
 use Prim.Native.Nat.{ℕ, zero, suc, ◌+◌, ◌-◌, ◌<◌, ◌≤◌}
 use native.Mathlib.Numerals.{add-one}
 use native.Mathlib.Omega.{arith}
+use mir.Val.{bool_byte as from_bool}
 use lib.Dec.{eqb, ltb}
 use lib.ListN.{length, get_or}
 use borrow.Author.Tests.{eq-eqb, ne_eqb, lt-ltb, le-ltb}
 use Rattle.laws.specs.Tests.{sum}
-use Rattle.laws.proofs.Cases.{cond_yes, cond_no, by_less, by_equal}
+use Rattle.laws.proofs.Cases.{last_or_below, cond_yes, cond_no, by_less, by_equal}
 use Rattle.laws.proofs.Counts.{sum_ext}
 use Rattle.sheet_spec.specs.Job.{is_input}
 use Rattle.stored_spec.specs.declared.Cell.{Cell}
@@ -121,7 +122,7 @@ module _ (R : List ℕ) (i : ℕ) where
       by true = omega (arith, variables_one_more (cells_to R i) (ended_cell R i), begun-variables)
       by false = omega (arith, ended-variables, begun-variables)
 
-  cells-next : length (cells_to R (i + 1)) ≡ length (cells_to R i) + cond (eqb (cut_byte R i) 1) 1 0
+  pub cells-next : length (cells_to R (i + 1)) ≡ length (cells_to R i) + cond (eqb (cut_byte R i) 1) 1 0
   cells-next = ap (λ (cs : List StoredCell). length cs) (next-ended R i) ∙ by (eqb (cut_byte R i) 1)
     where
       by : (b : Bool) → length (cond b (cells_to R i ++ (ended_cell R i ∷ [])) (cells_to R i)) ≡ length (cells_to R i) + cond b 1 0
@@ -140,14 +141,14 @@ module _ (R : List ℕ) (i n : ℕ) where
   ended_below : n - variable_sum (cells_to R i ++ (ended_cell R i ∷ [])) ≡ n - 1 - i
   ended_below = omega (arith, variables_one_more (cells_to R i) (ended_cell R i), begun-variables R i, variables-read R i)
 
-  top_next : n - variable_sum (cells_to R (i + 1)) ≡ cond (eqb (cut_byte R i) 1) (n - 1 - i) (n - variable_sum (cells_to R i))
+  pub top_next : n - variable_sum (cells_to R (i + 1)) ≡ cond (eqb (cut_byte R i) 1) (n - 1 - i) (n - variable_sum (cells_to R i))
   top_next = ap (λ (cs : List StoredCell). n - variable_sum cs) (next-ended R i) ∙ by (eqb (cut_byte R i) 1)
     where
       by : (b : Bool) → n - variable_sum (cond b (cells_to R i ++ (ended_cell R i ∷ [])) (cells_to R i)) ≡ cond b (n - 1 - i) (n - variable_sum (cells_to R i))
       by true = ended_below
       by false = refl
 
-  place_next : (k : ℕ) → place_in (cells_to R (i + 1)) n k
+  pub place_next : (k : ℕ) → place_in (cells_to R (i + 1)) n k
       ≡ cond (eqb (cut_byte R i) 1 && eqb (length (cells_to R i)) k)
       (between (n - variable_sum (cells_to R i)) (n - 1 - i) (row_sum (cells_to R i)) (row_sum (cells_to R (i + 1)))) (place_in (cells_to R i) n k)
   place_next k = rw (next-ended R i) (by (eqb (cut_byte R i) 1))
@@ -159,21 +160,39 @@ module _ (R : List ℕ) (i n : ℕ) where
       by true = rw (sym ended_below) (place_one_more (cells_to R i) (ended_cell R i) n k)
       by false = refl
 
--- one turn of a loop over stored records, with the cut byte read
-module _ (R : List ℕ) (i : ℕ) {cut : ℕ} (read : cut ≡ cut_byte R i) where
-  pub turn-cells : {m r : ℕ} → m ≡ length (cells_to R i) → r ≡ cond (eqb cut 1) 1 0 → m + r ≡ length (cells_to R (i + 1))
-  turn-cells p q = ap₂ (λ (x y : ℕ). x + y) p (q ∙ ap (λ (x : ℕ). cond (eqb x 1) 1 0) read) ∙ sym (cells-next R i)
+-- a place once found stays
+module _ (R : List ℕ) (m k : ℕ) where
+  place_kept : (i : ℕ) → k < length (cells_to R i) → (k < length (cells_to R (i + 1))) × (place_in (cells_to R (i + 1)) m k ≡ place_in (cells_to R i) m k)
+  place_kept i l =
+      let other : (eqb (cut_byte R i) 1 && eqb (length (cells_to R i)) k) ≡ false =
+      ap (λ (b : Bool). eqb (cut_byte R i) 1 && b) (ne_eqb (length (cells_to R i)) k (λ e. omega (arith, e, l))) ∙ and-false (eqb (cut_byte R i) 1)
+      in
+      (omega (arith, cells-next R i, l), place_next R i m k ∙ cond_no _ _ _ other)
 
-  pub turn_top : (n : ℕ) {a r : ℕ} → a ≡ n - variable_sum (cells_to R i) → r ≡ cond (eqb cut 1) (n - 1 - i) a → r ≡ n - variable_sum (cells_to R (i + 1))
-  turn_top n p q = q ∙ ap₂ (λ (x y : ℕ). cond (eqb x 1) (n - 1 - i) y) read p ∙ sym (top_next R i n)
+  same : (i n : ℕ) → i ≡ n → k < length (cells_to R i) → (k < length (cells_to R n)) × (place_in (cells_to R n) m k ≡ place_in (cells_to R i) m k)
+  same i n e h = rw (sym e) (h, refl)
 
-  pub turn_place : (n k : ℕ) {a r s m : ℕ} {old new : CellPlace} → a ≡ n - variable_sum (cells_to R i) → r ≡ row_sum (cells_to R i)
-      → s ≡ row_sum (cells_to R (i + 1)) → m ≡ length (cells_to R i) → old ≡ place_in (cells_to R i) n k
-      → new ≡ cond (eqb cut 1 && eqb m k) (between a (n - 1 - i) r s) old → new ≡ place_in (cells_to R (i + 1)) n k
-  turn_place n k {a} {r} {s} {old = old} p e f l o q =
-      q ∙ ap₂ (λ (x y : ℕ). cond (eqb x 1 && eqb y k) (between a (n - 1 - i) r s) old) read l
-      ∙ ap₂ (λ (x y : CellPlace). cond (eqb (cut_byte R i) 1 && eqb (length (cells_to R i)) k) x y) (between_same p refl e f) o
-      ∙ sym (place_next R i n k)
+  pub place_stays : (i n : ℕ) → i ≤ n → k < length (cells_to R i) → (k < length (cells_to R n)) × (place_in (cells_to R n) m k ≡ place_in (cells_to R i) m k)
+  place_stays i zero l h = same i 0 (omega arith) h
+  place_stays i (suc n) l h =
+      last_or_below i (suc n) (omega arith) (λ e. same i (suc n) e h)
+      (λ q.
+      let p = place_stays i n (omega arith) h in
+      let r = rw (add-one n) at (place_kept n p.0) in
+      (r.0, r.1 ∙ p.1))
+
+-- the heights and rows beside the cell that a cut below record i ends
+module _ (R : List ℕ) (i n : ℕ) where
+  pub top_below : eqb (cut_byte R i) 1 ≡ true → n - 1 - i ≡ n - variable_sum (cells_to R (i + 1))
+  top_below e = sym (top_next R i n ∙ cond_yes _ _ _ e)
+
+-- one turn of a loop over stored records that counts cells
+pub from_cut : (b : Bool) → from_bool b ≡ cond b 1 0
+from_cut true = refl
+from_cut false = refl
+
+pub turn-cells : (R : List ℕ) (i : ℕ) {m r : ℕ} → m ≡ length (cells_to R i) → r ≡ from_bool (eqb (cut_byte R i) 1) → m + r ≡ length (cells_to R (i + 1))
+turn-cells R i p q = ap₂ (λ (x y : ℕ). x + y) p (q ∙ from_cut (eqb (cut_byte R i) 1)) ∙ sym (cells-next R i)
 
 -- no record read; all records read
 pub no_cells : (R : List ℕ) (n k : ℕ) → (length (cells_to R 0) ≡ 0) × (n - variable_sum (cells_to R 0) ≡ n) × (place_in (cells_to R 0) n k ≡ no_place)
@@ -187,6 +206,10 @@ place_all R k e = rw e refl
 pub begin_all : (R : List ℕ) (k : ℕ) → k < cell_count R → (place_in (cells_to R (record_count R)) (record_count R) k).at ≡ rows_before R k
 unfolding place_in rows_before cell_count cell_at stored_cells
 begin_all R k l = rw (lt-ltb k (length (cells_to R (record_count R))) l) refl
+
+pub place_past : (R : List ℕ) (m k : ℕ) → length (cells_to R (record_count R)) ≤ k → no_place ≡ place_in (cells_to R (record_count R)) m k
+unfolding place_in
+place_past R m k l = sym (cond_no _ _ _ (le-ltb k (length (cells_to R (record_count R))) l))
 
 pub place_none : (R : List ℕ) (k : ℕ) → records_formed R ≡ false → no_place ≡ cell_place R k
 unfolding cell_place

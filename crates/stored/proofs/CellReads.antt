@@ -6,12 +6,13 @@ use mathlib.Core.List.{List, [], ◌∷◌, ◌++◌}
 use Prim.Native.Nat.{ℕ, zero, suc, ◌+◌, ◌-◌, ◌^◌, ◌≤◌, ◌<◌}
 use native.Mathlib.Numerals.{add-one}
 use native.Mathlib.Omega.{arith}
+use mir.Val.{bool_byte as from_bool}
 use lib.Dec.{eqb, leb, ltb, eqb-zero-suc, eqb-suc-suc}
 use lib.ListN.{length, get_or, get_or-append}
 use lib.Seq.{append_snoc, get_or-append-add}
 use borrow.Author.Tests.{eq-eqb, ne_eqb, leb-true, le-leb, ltb-true, lt-ltb, le-ltb}
 use Rattle.laws.specs.Tests.{every}
-use Rattle.laws.proofs.Cases.{by_less, by_equal, cond_yes, cond_no, cond_both, and_split, and_join, and_left_no}
+use Rattle.laws.proofs.Cases.{by_less, by_equal, cond_yes, cond_no, and_split, and_join, and_left_no}
 use Rattle.laws.proofs.Tests.{every_at}
 use Rattle.laws.proofs.Counts.{sum-le, sum_fixed}
 use Rattle.sheet_spec.specs.Job.{is_input}
@@ -116,20 +117,6 @@ module _ (R : List ℕ) (i : ℕ) where
           ap (λ (c : StoredCell). c.outs) part_next
           ∙ ap₂ (λ (n x : ℕ). appended (eqb n k && not (ltb x 128)) (part_to R i k).outs (x - 128)) (sym here) (sym p)
 
-      pub turn-upper : {cut rail a b : ℕ} → cut ≡ cut_byte R i → rail ≡ rail_byte R i → a ≡ (part_to R i k).upper
-          → b ≡ cond (eqb cut 1 && eqb (cell + 1) k) rail a → b ≡ (part_to R (i + 1) k).upper
-      turn-upper {a = a} p q r e =
-          e ∙ ap₂ (λ (x y : ℕ). cond (eqb x 1 && eqb (cell + 1) k) y a) p q
-          ∙ ap₂ (λ (n y : ℕ). cond (eqb (cut_byte R i) 1 && eqb (n + 1) k) (rail_byte R i) y) here r
-          ∙ sym (ap (λ (c : StoredCell). c.upper) part_next)
-
-      pub turn-lower : {cut rail a b : ℕ} → cut ≡ cut_byte R i → rail ≡ rail_byte R i → a ≡ (part_to R i k).lower
-          → b ≡ cond (eqb cut 1 && eqb cell k) rail a → b ≡ (part_to R (i + 1) k).lower
-      turn-lower {a = a} p q r e =
-          e ∙ ap₂ (λ (x y : ℕ). cond (eqb x 1 && eqb cell k) y a) p q
-          ∙ ap₂ (λ (n y : ℕ). cond (eqb (cut_byte R i) 1 && eqb n k) (rail_byte R i) y) here r
-          ∙ sym (ap (λ (c : StoredCell). c.lower) part_next)
-
 -- no record read; all records read
 pub part_none : (R : List ℕ) (k : ℕ) → part_to R 0 k ≡ no_cell
 unfolding part_to reading
@@ -149,18 +136,19 @@ unfolding part_to cell_count cell_at stored_cells
 part_all R k l = get_or-append (cells_to R (record_count R)) _ no_cell k l
 
 -- no more cells than records
-one_cell : (b : Bool) → cond b 1 0 ≤ 1
-one_cell b = cond_both (λ (n : ℕ). n ≤ 1) b (omega arith) (omega arith)
+pub one_cell : (b : Bool) → from_bool b ≤ 1
+one_cell true = omega arith
+one_cell false = omega arith
 
 pub cells-few : (R : List ℕ) (i : ℕ) → length (cells_to R i) ≤ i
 cells-few R zero = omega (arith, cells-none R)
 cells-few R (suc i) =
-    let n = turn-cells R i {cut = cut_byte R i} refl {m = length (cells_to R i)} {r = cond (eqb (cut_byte R i) 1) 1 0} refl refl in
+    let n = turn-cells R i {m = length (cells_to R i)} {r = from_bool (eqb (cut_byte R i) 1)} refl refl in
     let e = ap (λ (j : ℕ). length (cells_to R j)) (add-one i) in
     omega (arith, n, e, one_cell (eqb (cut_byte R i) 1), cells-few R i)
 
-pub few-cells : (R : List ℕ) (i cut : ℕ) {cell r : ℕ} → cell ≡ length (cells_to R i) → r ≡ cond (eqb cut 1) 1 0 → cell + r ≤ i + 1
-few-cells R i cut p q = omega (arith, p, q, one_cell (eqb cut 1), cells-few R i)
+pub few-cells : (R : List ℕ) (i : ℕ) {cell r : ℕ} → cell ≡ length (cells_to R i) → r ≡ from_bool (eqb (cut_byte R i) 1) → cell + r ≤ i + 1
+few-cells R i p q = omega (arith, p, q, one_cell (eqb (cut_byte R i) 1), cells-few R i)
 
 -- rows counted, where the cells fit
 pub formed_fit : (R : List ℕ) → records_formed R ≡ true → cells_fit R ≡ true
@@ -177,10 +165,6 @@ pub rows_counted_lem : (R : List ℕ) → cells_fit R ≡ true → row_count R �
 unfolding rows_counted
 rows_counted_lem R e = sym (cond_yes (cells_fit R) (row_count R) 0 e)
 
-pub rows_uncounted : (R : List ℕ) → cells_fit R ≡ false → 0 ≡ rows_counted R
-unfolding rows_counted
-rows_uncounted R e = sym (cond_no (cells_fit R) (row_count R) 0 e)
-
 module _ (R : List ℕ) (k : ℕ) where
   -- cell k has rails that are told; its rows can be counted
   abbrev pub rails_told : Bool
@@ -190,10 +174,6 @@ module _ (R : List ℕ) (k : ℕ) where
   rows_told = cells_fit R && ltb k (cell_count R)
 
   -- no cell k
-  pub no_rails_lem : rails_told ≡ false → record { upper = 0; lower = 0 } ≡ cell_rails R k
-  unfolding cell_rails
-  no_rails_lem e = sym (cond_no rails_told _ _ e)
-
   pub no_row : rows_told ≡ false → (r w : ℕ) → 0 ≡ row_read R k r w
   unfolding row_read
   no_row e r w = sym (cond_no (rows_told && ltb r (2 ^ (cell_at R k).upper)) _ 0 (and_left_no rows_told _ e))
@@ -204,9 +184,6 @@ module _ (R : List ℕ) (k : ℕ) where
 
   -- its rails
   module _ (e : rails_told ≡ true) where
-    pub rails-cell : k < cell_count R
-    rails-cell = ltb-true k (cell_count R) (and_split (leb (length R) 80) (ltb k (cell_count R)) e).1
-
     pub some-rails : record { upper = (cell_at R k).upper; lower = (cell_at R k).lower } ≡ cell_rails R k
     unfolding cell_rails
     some-rails = sym (cond_yes rails_told _ _ e)

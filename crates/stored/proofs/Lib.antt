@@ -2,6 +2,8 @@
 pub mod CellPlaces
 pub mod CellReads
 pub mod Promises
-mod RecordSteps
 pub mod RowBits
-mod RowTotals
+mod CellFound
+pub mod CellSteps
+mod Given
+mod Walks

@@ -14,7 +14,7 @@ use Rattle.laws.specs.Bits.{bit}
 use Rattle.laws.proofs.Bits.{bit-lt}
 use Rattle.laws.proofs.Cases.{cond_both, last_or_below}
 use Rattle.stored_spec.specs.StoredForm.{StoredCell, record_count, variable, appended, cell_at}
-use Rattle.stored_spec.specs.Run.{address, set_outputs, outputs_after}
+use Rattle.stored_spec.specs.Run.{address, set_outputs}
 use Rattle.stored.specs.Reads.{has_cell}
 use Rattle.stored_spec.proofs.StoredCells.{cells_to}
 use Rattle.stored.proofs.CellReads.{part_to, turn-ins, turn-outs, part_none, whole_part, cell_there}
@@ -51,10 +51,6 @@ pub length-outputs : (os outs : List ℕ) (x : ℕ) → length (set_outputs outs
 unfolding set_outputs
 length-outputs [] outs x = refl
 length-outputs (o ∷ os) outs x = length-outputs os (set outs o (bit x (length os))) x ∙ length-set outs o (bit x (length os))
-
-pub length-after : (c : StoredCell) (outs : List ℕ) (x : ℕ) → length (outputs_after c outs x) ≡ length outs
-unfolding outputs_after
-length-after c outs x = length-outputs c.outs outs (x / 2 ^ c.lower)
 
 -- no record read
 pub no_inputs : (R : List ℕ) (k r w : ℕ) → address r (part_to R 0 k).ins w ≡ r

@@ -1,2 +1,3 @@
 -- Laws of `src/read_write.rt`.
+mod Copies
 pub mod RecordArrays

@@ -1,3 +1,2 @@
 -- Laws of `src/rows.rt`.
-mod OneByte
 mod RowBytes

@@ -1,10 +1,10 @@
 -- What the test of a stored cascade computes on its way.
 -- Assumes nothing.
-use Rattle.std.specs.Prelude.{ℕ, ◌+◌, ◌/◌, ◌%◌, ◌≤◌, ◌≡◌, Bool, true, false, cond, ◌&&◌, ◌||◌, List, eqb, leb, length}
+use Rattle.std.specs.Prelude.{ℕ, ◌+◌, ◌/◌, ◌%◌, Bool, cond, ◌&&◌, ◌||◌, List, eqb, leb, length, Option, Some, None}
 use Rattle.laws.specs.Bits.{marks}
 use Rattle.laws.specs.Tests.{within}
 use Rattle.stored_spec.specs.RowBytes.{row_value}
-use Rattle.stored_spec.specs.StoredForm.{row_count, records_formed}
+use Rattle.stored_spec.specs.StoredForm.{row_count, records_formed_as}
 
 -- an input or an output; the bytes after a variable
 unfoldable pub is_named : ℕ → Bool
@@ -21,14 +21,6 @@ place_of v = (v + v / 8) % 64
 abbrev pub bits_of : ℕ → List ℕ → ℕ
 bits_of z bytes = marks 0 (row_value z bytes) (length bytes / z)
 
--- one more than the most rows
-abbrev pub too_many : ℕ
-too_many = 32769
-
--- rows counted while cells are tested: n where all fit, else too many
-abbrev pub Counted : Bool → ℕ → ℕ → Type 0
-Counted fit n r = (fit ≡ true → r ≡ n) × (fit ≡ false → too_many ≤ r)
-
--- the rows of well formed records
-unfoldable pub rows_wanted : List ℕ → ℕ
-rows_wanted R = cond (records_formed R) (row_count R) too_many
+-- the rows of well formed records, of z bytes each
+unfoldable pub rows_wanted : ℕ → List ℕ → Option ℕ
+rows_wanted z R = cond (records_formed_as z R) (Some (row_count R)) None

@@ -3,3 +3,4 @@ pub mod Formed
 pub mod Places
 pub mod Reads
 pub mod RecordArrays
+pub mod Walks

@@ -23,7 +23,11 @@ cells_fit R = cells_fit_as two_bytes R
 unfoldable pub rows_counted : List ℕ → ℕ
 rows_counted R = cond (cells_fit R) (row_count R) 0
 
--- upper and lower rails
+-- upper and lower rails, of cells of which there may be any number; of at most 80 bytes
+unfoldable pub rails_in : List ℕ → ℕ → CellRails
+rails_in R k =
+    cond (ltb k (cell_count R)) (record { upper = (cell_at R k).upper; lower = (cell_at R k).lower }) (record { upper = 0; lower = 0 })
+
 unfoldable pub cell_rails : List ℕ → ℕ → CellRails
 cell_rails R k =
     cond (leb (length R) 80 && ltb k (cell_count R)) (record { upper = (cell_at R k).upper; lower = (cell_at R k).lower })

@@ -2,38 +2,32 @@
 
 #![tactic(auto)]
 
-mod casts;
 mod formed;
 mod places;
 mod read_write;
 mod reads;
 mod rows;
+mod walk;
 
 ghost use Rattle.std.specs.Prelude.{◌≡◌, length, get_or};
 ghost use Rattle.laws.specs.Lists.{puts};
+ghost use Rattle.refusals.specs.Numbers.{answered};
 ghost use Rattle.stored_spec.specs.RowBytes.{one_byte};
 ghost use Rattle.stored_spec.specs.StoredForm.{well_formed, well_formed_as, records_formed, cell_count};
 ghost use Rattle.stored.specs.Places.{cell_place};
 ghost use Rattle.stored.specs.Reads.{cells_fit_as, rows_counted, cell_rails, row_read, outputs_read};
-ghost use Rattle.stored.specs.RecordArrays.{cascade_from, read_as};
+ghost use Rattle.stored.specs.RecordArrays.{cascade_from, read_as, read_given};
 ghost use Rattle.stored_spec.specs.ReadWrite.{read, written_as, write};
 
+use refusals::Refusal;
 use sheet_spec::MOST_VARIABLES;
+use stored_spec::Record;
 
-// The records of a cascade, top first: of each its variable, whether a cut lies directly below, and the rails there.
+// The records of a cascade, top first, and how many there are.
 #[derive(Clone, Copy)]
 pub struct StoredRecords {
-    pub count: u8,
-    pub variables: [u8; MOST_VARIABLES],
-    pub cuts: [bool; MOST_VARIABLES],
-    pub rails: [u8; MOST_VARIABLES],
-}
-
-// What reading answers: 12, or 0 and the records.
-#[derive(Clone, Copy)]
-pub struct ReadRecords {
-    pub refusal: u8,
-    pub records: StoredRecords,
+    pub count: usize,
+    pub records: [Record; MOST_VARIABLES],
 }
 
 // Where a cell of a stored cascade lies: the heights of its upper and its lower cut, and where its rows begin and end.
@@ -49,14 +43,14 @@ pub struct CellPlace {
 pub fn well_formed(records: &[u8], rows: &[u8]) -> bool
     ensures { result ≡ well_formed records.now rows.now }
 {
-    rows::formed(records, rows)
+    rows::formed::<2>(records, rows)
 }
 
 // The same with one byte a row, by document 01's rules before document 02, §6.
 pub fn one_byte_formed(records: &[u8], rows: &[u8]) -> bool
     ensures { result ≡ well_formed_as one_byte records.now rows.now }
 {
-    rows::one_byte_formed(records, rows)
+    rows::formed::<1>(records, rows)
 }
 
 // At most 80 bytes of records, no cell of which has more outputs than a row of one byte has bits.
@@ -74,15 +68,20 @@ pub fn copy_front(from: &[u8], to: &mut [u8])
 }
 
 // Reads a stored cascade: its records, where both are well formed; its rows are the row bytes as they stand.
-pub fn read(records: &[u8], rows: &[u8]) -> ReadRecords
-    ensures { result ≡ read_as (read records.now rows.now) }
+pub fn read(records: &[u8], rows: &[u8]) -> Result<StoredRecords, Refusal>
+    ensures { read_given result ≡ read_as (read records.now rows.now) }
 {
     read_write::read_records(records, rows)
 }
 
-// Writes the cascade of these records and row bytes: 12, 10 or 11 and nothing is changed, or 0 and both memories hold it at their front.
-pub fn write(from: StoredRecords, bytes: &[u8], records: &mut [u8], rows: &mut [u8]) -> u8
-    ensures { written_as result records.new rows.new
+// Writes the cascade of these records and row bytes: both memories hold it at their front, or nothing is changed: 12, 10 or 11.
+pub fn write(
+    from: StoredRecords,
+    bytes: &[u8],
+    records: &mut [u8],
+    rows: &mut [u8],
+) -> Result<(), Refusal>
+    ensures { written_as (answered result) records.new rows.new
         ≡ write (cascade_from from bytes.now) records.old rows.old }
 {
     read_write::write_records(from, bytes, records, rows)

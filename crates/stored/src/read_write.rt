@@ -2,70 +2,48 @@
 ghost use Rattle.std.specs.Prelude.{◌≡◌, false, [], ◌≤◌, ◌<◌, ◌+◌, ◌*◌, length, get_or};
 ghost use Rattle.std.proofs.lemmas.List.Edits.{sets};
 ghost use Rattle.laws.specs.Lists.{puts};
-ghost use Rattle.laws.specs.Bits.{flag};
+ghost use Rattle.refusals.specs.Numbers.{answered};
 ghost use Rattle.stored_spec.specs.StoredForm.{record_count};
-ghost use Rattle.stored.specs.RecordArrays.{structure_of, records_of, cascade_from, read_as};
+ghost use Rattle.stored.specs.RecordArrays.{structure_of, records_of, cascade_from, read_as, read_given};
 ghost use Rattle.stored_spec.specs.ReadWrite.{record_bytes, cascade_of, read, written_as, write_bytes, write};
 
-use crate::casts::narrow;
+use crate::StoredRecords;
 use crate::rows::formed;
-use crate::{ReadRecords, StoredRecords};
-use numbers::{least, wide};
+use refusals::Refusal;
 use sheet_spec::MOST_VARIABLES;
-use stored_spec::MOST_RECORD_BYTES;
+use stored_spec::{MOST_RECORD_BYTES, Record};
+
+const NO_RECORD: Record = Record {
+    variable: 0,
+    cut: false,
+    rails: 0,
+};
 
 // The parts of well formed records.
-fn take_apart(records: &[u8]) -> StoredRecords
-    requires { record_count records.now ≤ 20 }
-    ensures { result ≡ structure_of (cascade_of records.now []).records }
+fn take_apart(bytes: &[u8]) -> StoredRecords
+    requires { record_count bytes.now ≤ 20 }
+    ensures { result ≡ structure_of (cascade_of bytes.now []).records }
 {
-    let count = records.len() / 4;
-    let mut variables = [0u8; MOST_VARIABLES];
-    let mut cuts = [false; MOST_VARIABLES];
-    let mut rails = [0u8; MOST_VARIABLES];
-    let mut i = 0;
-    while i < count {
-        variables[i] = records[i * 4];
-        cuts[i] = records[i * 4 + 1] == 1;
-        rails[i] = records[i * 4 + 2];
-        i += 1;
-    }
-    StoredRecords {
-        count: narrow(count),
-        variables,
-        cuts,
-        rails,
-    }
-}
-
-// The records of a stored cascade, or 12.
-pub fn read_records(records: &[u8], rows: &[u8]) -> ReadRecords
-    ensures { result ≡ read_as (read records.now rows.now) }
-{
-    if formed(records, rows) {
-        return ReadRecords {
-            refusal: 0,
-            records: take_apart(records),
+    let count = bytes.len() / 4;
+    let mut records = [NO_RECORD; MOST_VARIABLES];
+    for i in 0..count {
+        records[i] = Record {
+            variable: bytes[i * 4],
+            cut: bytes[i * 4 + 1] == 1,
+            rails: bytes[i * 4 + 2],
         };
     }
-    ReadRecords {
-        refusal: 12,
-        records: StoredRecords {
-            count: 0,
-            variables: [0u8; MOST_VARIABLES],
-            cuts: [false; MOST_VARIABLES],
-            rails: [0u8; MOST_VARIABLES],
-        },
-    }
+    StoredRecords { count, records }
 }
 
-fn flag_of(b: bool) -> u8
-    ensures { result ≡ flag b }
+// The records of a stored cascade.
+pub fn read_records(records: &[u8], rows: &[u8]) -> Result<StoredRecords, Refusal>
+    ensures { read_given result ≡ read_as (read records.now rows.now) }
 {
-    if b {
-        return 1;
+    if formed::<2>(records, rows) {
+        return Ok(take_apart(records));
     }
-    0
+    Err(Refusal::NotFormed)
 }
 
 // The bytes of up to 20 records.
@@ -73,17 +51,13 @@ fn bytes_of(from: StoredRecords, bytes: &mut [u8; MOST_RECORD_BYTES])
     requires { from.count ≤ 20 }
     ensures { bytes.new ≡ sets bytes.old 0 (record_bytes (records_of from)) }
 {
-    let count = wide(from.count);
-    let variables = from.variables;
-    let cuts = from.cuts;
-    let rails = from.rails;
-    let mut i = 0;
-    while i < count {
-        bytes[i * 4] = variables[i];
-        bytes[i * 4 + 1] = flag_of(cuts[i]);
-        bytes[i * 4 + 2] = rails[i];
+    let records = from.records;
+    for i in 0..from.count {
+        let record = records[i];
+        bytes[i * 4] = record.variable;
+        bytes[i * 4 + 1] = u8::from(record.cut);
+        bytes[i * 4 + 2] = record.rails;
         bytes[i * 4 + 3] = 0;
-        i += 1;
     }
 }
 
@@ -91,43 +65,48 @@ fn bytes_of(from: StoredRecords, bytes: &mut [u8; MOST_RECORD_BYTES])
 pub fn copy_bytes(from: &[u8], to: &mut [u8])
     ensures { to.new ≡ puts (length from.now) (λ i. get_or from.now i 0) to.old }
 {
-    let count = least(from.len(), to.len());
-    let mut i = 0;
-    while i < count {
-        to[i] = from[i];
-        i += 1;
-    }
+    let count = from.len().min(to.len());
+    to[..count].copy_from_slice(&from[..count]);
 }
 
-// Writes record bytes and row bytes: 12 where they are not well formed, 10 or 11 where a memory is short, else 0.
-fn write_bytes(stored: &[u8], bytes: &[u8], records: &mut [u8], rows: &mut [u8]) -> u8
-    ensures { written_as result records.new rows.new
+// Writes record bytes and row bytes, where they are well formed and no memory is short.
+fn write_bytes(
+    stored: &[u8],
+    bytes: &[u8],
+    records: &mut [u8],
+    rows: &mut [u8],
+) -> Result<(), Refusal>
+    ensures { written_as (answered result) records.new rows.new
         ≡ write_bytes stored.now bytes.now records.old rows.old }
 {
-    if formed(stored, bytes) {
-        if records.len() < stored.len() {
-            return 10;
-        }
-        if rows.len() < bytes.len() {
-            return 11;
-        }
-        copy_bytes(stored, records);
-        copy_bytes(bytes, rows);
-        return 0;
+    if !formed::<2>(stored, bytes) {
+        return Err(Refusal::NotFormed);
     }
-    12
+    if records.len() < stored.len() {
+        return Err(Refusal::RecordsShort);
+    }
+    if rows.len() < bytes.len() {
+        return Err(Refusal::RowsShort);
+    }
+    records[..stored.len()].copy_from_slice(stored);
+    rows[..bytes.len()].copy_from_slice(bytes);
+    Ok(())
 }
 
 // Writes a cascade of these records and row bytes to the lent memories.
-pub fn write_records(from: StoredRecords, bytes: &[u8], records: &mut [u8], rows: &mut [u8]) -> u8
-    ensures { written_as result records.new rows.new
+pub fn write_records(
+    from: StoredRecords,
+    bytes: &[u8],
+    records: &mut [u8],
+    rows: &mut [u8],
+) -> Result<(), Refusal>
+    ensures { written_as (answered result) records.new rows.new
         ≡ write (cascade_from from bytes.now) records.old rows.old }
 {
-    let count = wide(from.count);
-    if count > 20 {
-        return 12;
+    if from.count > MOST_VARIABLES {
+        return Err(Refusal::NotFormed);
     }
     let mut stored = [0u8; MOST_RECORD_BYTES];
     bytes_of(from, &mut stored);
-    write_bytes(&stored[..count * 4], bytes, records, rows)
+    write_bytes(&stored[..from.count * 4], bytes, records, rows)
 }

@@ -11,11 +11,11 @@ use Rattle.laws.specs.Bits.{flag}
 use Rattle.laws.proofs.Lists.{length-tab, tab-next, get_or-tab, tab_ext, tab_of}
 use Rattle.laws.proofs.Puts.{sets-append, puts_ext, get_or-puts}
 use Rattle.stored_spec.specs.RowBytes.{two_bytes}
-use Rattle.stored_spec.specs.StoredForm.{variable, record_count, cut_byte, rail_byte, well_formed}
-use Rattle.stored_spec.specs.ReadWrite.{Record, record_bytes, no_record, record_at, cascade_of, ReadAnswer, read}
+use Rattle.stored_spec.specs.StoredForm.{record_count, well_formed}
+use Rattle.stored_spec.specs.declared.Record.{Record}
+use Rattle.stored_spec.specs.ReadWrite.{record_bytes, no_record, record_at, cascade_of, ReadAnswer, read}
 use Rattle.stored_spec.proofs.RecordBytes.{length-bytes, bytes-append, count-bytes}
-use mathlib.Core.Bool.{Bool, false, true}
-use lib.Dec.{eqb}
+use mathlib.Core.Bool.{false, true}
 use Rattle.laws.proofs.Cases.{no_test}
 use Rattle.laws.proofs.Filled.{written-sets, written_front}
 use Rattle.stored.specs.RecordArrays.{StoredRecords, records_of, structure_of, read_as}
@@ -34,25 +34,13 @@ bytes_next f i l s c e g =
     rw (one, two, three, g, e, at) (sym (sets-append (record_bytes (tab i f)) (record_bytes (f i ∷ [])) l 0))
     ∙ ap (sets l 0) (sym (bytes-append (tab i f) (f i ∷ [])) ∙ ap record_bytes (sym (tab-next f i)))
 
-pub structure_of_lem : (f : ℕ → Record) (n c : ℕ) (variables : List ℕ) (cuts : List Bool) (rails : List ℕ) → c ≡ n
-    → variables ≡ puts n (λ i. (f i).variable) (replicate 20 0) → cuts ≡ puts n (λ i. (f i).cut) (replicate 20 false)
-    → rails ≡ puts n (λ i. (f i).rails) (replicate 20 0)
-    → ◌≡◌ {A = StoredRecords} (record { count = c; variables = variables; cuts = cuts; rails = rails }) (structure_of (tab n f))
-unfolding structure_of
-structure_of_lem f n c variables cuts rails e v u r =
-    let at : (i : ℕ) → i < n → f i ≡ get_or (tab n f) i no_record = λ i h. sym (get_or-tab f no_record n i h) in
-    let v' = puts_ext (λ i. (f i).variable) (λ i. (get_or (tab n f) i no_record).variable) n (replicate 20 0) (λ i h. ap (λ (x : Record). x.variable) (at i h)) in
-    let u' = puts_ext (λ i. (f i).cut) (λ i. (get_or (tab n f) i no_record).cut) n (replicate 20 false) (λ i h. ap (λ (x : Record). x.cut) (at i h)) in
-    let r' = puts_ext (λ i. (f i).rails) (λ i. (get_or (tab n f) i no_record).rails) n (replicate 20 0) (λ i h. ap (λ (x : Record). x.rails) (at i h)) in
-    rw (e, v ∙ v', u ∙ u', r ∙ r', length-tab f n) refl
-
-pub taken_apart : (R : List ℕ) (n c : ℕ) (variables : List ℕ) (cuts : List Bool) (rails : List ℕ) → n ≡ record_count R → c ≡ n
-    → variables ≡ puts n (variable R) (replicate 20 0) → cuts ≡ puts n (λ i. eqb (cut_byte R i) 1) (replicate 20 false)
-    → rails ≡ puts n (rail_byte R) (replicate 20 0)
-    → ◌≡◌ {A = StoredRecords} (record { count = c; variables = variables; cuts = cuts; rails = rails }) (structure_of (cascade_of R []).records)
-unfolding cascade_of record_at
-taken_apart R n c variables cuts rails m e v u r =
-    structure_of_lem (record_at R) n c variables cuts rails e v u r ∙ ap (λ (k : ℕ). structure_of (tab k (record_at R))) m
+pub taken_apart : (R : List ℕ) (n : ℕ) (rs : List Record) → n ≡ record_count R → rs ≡ puts n (record_at R) (replicate 20 no_record)
+    → ◌≡◌ {A = StoredRecords} (record { count = n; records = rs }) (structure_of (cascade_of R []).records)
+unfolding cascade_of structure_of
+taken_apart R n rs m e =
+    let at = puts_ext (record_at R) (λ i. get_or (tab n (record_at R)) i no_record) n (replicate 20 no_record)
+    (λ i h. sym (get_or-tab (record_at R) no_record n i h)) in
+    rw (sym m, e ∙ at, length-tab (record_at R) n) refl
 
 pub too_many_lem : (rs : List Record) (bytes : List ℕ) → 20 < length rs → well_formed (record_bytes rs) bytes ≡ false
 too_many_lem rs bytes h =
@@ -83,12 +71,7 @@ pub structure_keeps : (rs : List Record) → length rs ≤ 20 → records_of (st
 unfolding records_of structure_of
 structure_keeps rs h =
     tab_ext _ (λ i. get_or rs i no_record) (length rs)
-    (λ i p.
-    rw (
-      get_or-puts (λ i. (get_or rs i no_record).variable) (length rs) (replicate 20 0) 0 i p (omega (arith, length-replicate {A = ℕ} 20 0)),
-      get_or-puts (λ i. (get_or rs i no_record).cut) (length rs) (replicate 20 false) false i p (omega (arith, length-replicate {A = Bool} 20 false)),
-      get_or-puts (λ i. (get_or rs i no_record).rails) (length rs) (replicate 20 0) 0 i p (omega (arith, length-replicate {A = ℕ} 20 0)),
-    ) refl)
+    (λ i p. get_or-puts (λ i. get_or rs i no_record) (length rs) (replicate 20 no_record) no_record i p (omega (arith, length-replicate {A = Record} 20 no_record)))
     ∙ tab_of no_record rs
 
 -- and, from a structure that read gave, writing is of the cascade read

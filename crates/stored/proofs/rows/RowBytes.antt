@@ -3,10 +3,12 @@
 use mathlib.Core.Path.{◌≡◌, sym, ◌∙◌, ap}
 use mathlib.Core.Bool.{Bool, true, ◌&&◌}
 use mathlib.Core.List.{List}
-use Prim.Native.Nat.{ℕ, zero, suc, ◌+◌, ◌*◌, ◌/◌, ◌^◌, ◌≤◌, ◌<◌}
-use native.Mathlib.Nat.{add-mul}
+use Prim.Native.Nat.{ℕ, zero, suc, ◌+◌, ◌-◌, ◌*◌, ◌/◌, ◌^◌, ◌≤◌, ◌<◌}
+use native.Mathlib.Nat.{add-mul, mul-le-mul_left}
 use native.Mathlib.Omega.{arith}
 use lib.Bits.{bit_or, or_lt, or_add_and, and_le_l, and_le_r}
+use mir.Syntax.{w8}
+use mir.Val.{Fits}
 use lib.Dec.{ltb}
 use lib.ListN.{length, get_or, take, drop, length-drop}
 use lib.Seq.{length-take-le}
@@ -17,7 +19,7 @@ use Rattle.laws.specs.Tests.{every}
 use Rattle.laws.proofs.Cases.{and_split, and_join, same_test}
 use Rattle.laws.proofs.Marks.{marks_ext}
 use Rattle.laws.proofs.Tests.{every_of}
-use Rattle.stored_spec.specs.RowBytes.{two_bytes, row_value, room}
+use Rattle.stored_spec.specs.RowBytes.{row_value, room}
 use Rattle.stored_spec.proofs.RowForms.{row_lt, row_part, rows-room}
 use Rattle.stored.specs.Formed.{bits_of}
 
@@ -58,10 +60,21 @@ module _ (z : ℕ) (some : 0 < z) (rows : List ℕ) (at n : ℕ) where
       → ltb (bits_of z (take (room z count) (drop (room z at) rows))) (2 ^ n) ≡ every count (λ i. ltb (row_value z rows (at + i)) (2 ^ n))
   bits_below count l = ap (λ (b : ℕ). ltb b (2 ^ n)) (part_bits count l) ∙ marks_below n (λ i. row_value z rows (at + i)) count
 
--- any row of two bytes is below 2^16
-module _ (rows : List ℕ) (at n : ℕ) where
-  pub any_below : n ≡ 16 → ((i : ℕ) → get_or rows i 0 < 256) → (count : ℕ) → true ≡ every count (λ i. ltb (row_value two_bytes rows (at + i)) (2 ^ n))
-  any_below e h count =
-      let p : 65536 ≡ 2 ^ n = ap (λ (k : ℕ). 2 ^ k) (sym e) in
-      sym (every_of (λ i. ltb (row_value two_bytes rows (at + i)) (2 ^ n)) count
-      (λ i l. lt-ltb (row_value two_bytes rows (at + i)) (2 ^ n) (omega (arith, p, row_lt two_bytes rows h (at + i)))))
+-- any row of z bytes is below 2^(8 z)
+pub any_below : (z : ℕ) (rows : List ℕ) (at n : ℕ) → n ≡ 8 * z → ((i : ℕ) → Fits w8 (get_or rows i 0)) → (count : ℕ)
+    → true ≡ every count (λ i. ltb (row_value z rows (at + i)) (2 ^ n))
+any_below z rows at n e h count =
+    let p : 2 ^ (8 * z) ≡ 2 ^ n = ap (λ (k : ℕ). 2 ^ k) (sym e) in
+    sym (every_of (λ i. ltb (row_value z rows (at + i)) (2 ^ n)) count
+    (λ i l. lt-ltb (row_value z rows (at + i)) (2 ^ n) (omega (arith, p, row_lt z rows (λ k. omega (arith, h k)) (at + i)))))
+
+-- rows take their size each
+pub room_some : (z n : ℕ) → 1 ≤ z → n ≤ room z n
+unfolding room
+room_some z n h = let m = mul-le-mul_left n h in omega (arith, m)
+
+-- rows that are within the bytes, as the code cuts them out
+pub cut_out : (z : ℕ) (rows : List ℕ) (at count : ℕ) → room z (at + count) ≤ length rows
+    → (at * z ≤ length rows) × ((at + count) * z ≤ length rows) × ((at + count) * z - at * z ≡ room z count)
+unfolding room
+cut_out z rows at count l = let m = add-mul at count z in (omega (arith, l, m), l, omega (arith, m))

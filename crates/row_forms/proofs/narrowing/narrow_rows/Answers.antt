@@ -14,20 +14,19 @@ use Rattle.row_forms.proofs.narrowing.narrow_rows.Goals as goal
 use Rattle.row_forms.proofs.narrowing.narrow_rows.Invariants.{moved}
 
 pub loop-i-init : goal.loop-i-init
-loop-i-init c = let a = c.args in (omega arith, sym (puts_none (moved a.from.now) a.to.now), refl)
+loop-i-init c = let a = c.args in (sym (puts_none (moved a.from.now) a.to.now), refl)
 
 pub bounds-to-i : goal.bounds-to-i
-bounds-to-i c = omega (arith, c.requires, c.loop-i.invariant.2, c.loop-i-test.true)
+bounds-to-i c = omega (arith, c.requires, c.loop-i.invariant.1, c.loop-i-test.true)
 
 pub loop-i-preserved : goal.loop-i-preserved
 loop-i-preserved c =
     let l = c.loop-i in
     let a = c.args in
     let from = a.from.now in
-    let are : AreBytes from = λ i. omega (arith, c.shared_slice_known-1.given i) in (
-      omega arith,
-      puts-next (moved from) l.i a.to.now l.to _ l.invariant.1 (sym (slim_byte from are l.i c.loop-i-test.true)),
-      length-set l.to l.i _ ∙ l.invariant.2,
+    let are : AreBytes from = λ i. omega (arith, c.type_inv.from i) in (
+      puts-next (moved from) l.i a.to.now l.to _ l.invariant.0 (sym (slim_byte from are l.i c.loop-i-test.true)),
+      length-set l.to l.i _ ∙ l.invariant.1,
     )
 
 pub returns : goal.returns
@@ -36,4 +35,4 @@ returns c =
     let from = c.args.from.now in
     let vs = moved_rows two_bytes one_byte from in
     let e : l.i ≡ length vs = omega (arith, slim_length from) in
-    l.invariant.1 ∙ ap (λ (k : ℕ). puts k (moved from) c.args.to.now) e ∙ copied vs c.args.to.now (omega (arith, c.requires, slim_length from))
+    l.invariant.0 ∙ ap (λ (k : ℕ). puts k (moved from) c.args.to.now) e ∙ copied vs c.args.to.now (omega (arith, c.requires, slim_length from))

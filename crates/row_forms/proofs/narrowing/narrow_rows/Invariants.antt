@@ -2,7 +2,7 @@
 -- Assumes nothing.
 use mathlib.Core.Path.{◌≡◌}
 use mathlib.Core.List.{List}
-use Prim.Native.Nat.{ℕ, ◌-◌, ◌≤◌}
+use Prim.Native.Nat.{ℕ}
 use lib.ListN.{length, get_or}
 use Rattle.laws.specs.Lists.{puts}
 use Rattle.stored_spec.specs.RowBytes.{one_byte, two_bytes}
@@ -14,7 +14,4 @@ abbrev pub moved : List ℕ → ℕ → ℕ
 moved from n = get_or (moved_rows two_bytes one_byte from) n 0
 
 abbrev pub invariant-loop-i : goal.invariant-loop-i
-invariant-loop-i l = (l.i ≤ l.count) × (l.to ≡ puts l.i (moved l.from) l.initial.to) × (length l.to ≡ length l.initial.to)
-
-abbrev pub decreases-loop-i : goal.decreases-loop-i
-decreases-loop-i l = l.count - l.i
+invariant-loop-i l = (l.to ≡ puts l.i (moved l.from) l.initial.to) × (length l.to ≡ length l.initial.to)

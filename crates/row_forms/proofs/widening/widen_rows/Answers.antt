@@ -15,27 +15,26 @@ use Rattle.row_forms.proofs.widening.widen_rows.Goals as goal
 use Rattle.row_forms.proofs.widening.widen_rows.Invariants.{moved}
 
 pub loop-i-init : goal.loop-i-init
-loop-i-init c = let a = c.args in (omega arith, sym (puts_none (moved a.from.now) a.to.now), refl)
+loop-i-init c = let a = c.args in (sym (puts_none (moved a.from.now) a.to.now), refl)
 
 pub bounds-to-i : goal.bounds-to-i
 bounds-to-i c =
-    omega (arith, c.requires, room_two (length c.args.from.now), c.loop-i.invariant.2)
+    omega (arith, c.requires, room_two (length c.args.from.now), c.loop-i.invariant.1)
 
 pub bounds-to-i-in-loop-i : goal.bounds-to-i-in-loop-i
 bounds-to-i-in-loop-i c =
     let l = c.loop-i in
-    omega (arith, c.requires, room_two (length c.args.from.now), l.invariant.2, length-set l.to (l.i * 2) (get_or c.args.from.now l.i 0))
+    omega (arith, c.requires, room_two (length c.args.from.now), l.invariant.1, length-set l.to (l.i * 2) (get_or c.args.from.now l.i 0))
 
 pub loop-i-preserved : goal.loop-i-preserved
 loop-i-preserved c =
     let l = c.loop-i in
     let a = c.args in
     let from = a.from.now in
-    let are : AreBytes from = λ i. omega (arith, c.shared_slice_known-1.given i) in
+    let are : AreBytes from = λ i. omega (arith, c.type_inv.from i) in
     let here = c.loop-i-test.true in (
-      omega arith,
-      puts-pair (moved from) l.i a.to.now l.to _ 0 l.invariant.1 (sym (wide_low from are l.i here)) (sym (wide_high from are l.i here)),
-      length-set (set l.to (l.i * 2) (get_or from l.i 0)) (l.i * 2 + 1) 0 ∙ length-set l.to (l.i * 2) (get_or from l.i 0) ∙ l.invariant.2,
+      puts-pair (moved from) l.i a.to.now l.to _ 0 l.invariant.0 (sym (wide_low from are l.i here)) (sym (wide_high from are l.i here)),
+      length-set (set l.to (l.i * 2) (get_or from l.i 0)) (l.i * 2 + 1) 0 ∙ length-set l.to (l.i * 2) (get_or from l.i 0) ∙ l.invariant.1,
     )
 
 pub returns : goal.returns
@@ -44,5 +43,5 @@ returns c =
     let from = c.args.from.now in
     let vs = moved_rows one_byte two_bytes from in
     let e : l.i * 2 ≡ length vs = omega (arith, wide_length from) in
-    l.invariant.1 ∙ ap (λ (k : ℕ). puts k (moved from) c.args.to.now) e
+    l.invariant.0 ∙ ap (λ (k : ℕ). puts k (moved from) c.args.to.now) e
     ∙ copied vs c.args.to.now (omega (arith, c.requires, room_two (length from), wide_length from))

@@ -2,7 +2,6 @@
 -- Assumes nothing.
 use mathlib.Core.Path.{◌≡◌}
 use mathlib.Core.Bool.{true}
-use Prim.Native.Nat.{◌≤◌, ◌-◌}
 use Rattle.laws.specs.Bits.{marks}
 use Rattle.laws.specs.Tests.{every}
 use Rattle.stored.proofs.formed.RecordBits.{bytes_formed, place_first, bit_at}
@@ -10,7 +9,4 @@ use Rattle.stored.proofs.formed.each_formed.Given as goal
 
 abbrev pub invariant-loop-i : goal.invariant-loop-i
 invariant-loop-i l =
-    (l.i ≤ l.count) × (every l.i (bytes_formed l.records) ≡ true) × (every l.i (place_first l.records) ≡ true) × (l.seen ≡ marks 0 (bit_at l.records) l.i)
-
-abbrev pub decreases-loop-i : goal.decreases-loop-i
-decreases-loop-i l = l.count - l.i
+    (every l.i (bytes_formed l.records) ≡ true) × (every l.i (place_first l.records) ≡ true) × (l.seen ≡ marks 0 (bit_at l.records) l.i)

@@ -1,77 +1,59 @@
--- `rows_of` counts the rows of all cells.
+-- `rows_of` counts the rows of all cells that fit.
 -- Assumes nothing.
 use mathlib.Core.Path.{◌≡◌, sym, ◌∙◌, ap}
-use mathlib.Core.Bool.{cond}
-use Prim.Native.Nat.{ℕ, ◌+◌}
-use lib.Dec.{eqb}
-use Rattle.sheet_spec.specs.Job.{is_input}
-use Rattle.stored_spec.specs.RowBytes.{two_bytes}
-use Rattle.stored_spec.specs.StoredForm.{record_count}
-use Rattle.stored_spec.proofs.StoredCells.{begun_outs, more_outs, next-outs, begin, rows_all, cell-small}
-use Rattle.stored.proofs.RecordSteps.{turn, none-begun, begun-small, few_now, inputs_now, turn-begun, turn-rows}
+use Prim.Native.Nat.{ℕ}
 use native.Mathlib.Omega.{arith}
+use Rattle.std.specs.Prelude.{Some}
+use Rattle.laws.proofs.Cases.{cond_yes, cond_no, and_join}
+use Rattle.stored_spec.specs.StoredForm.{record_count}
+use Rattle.stored_spec.proofs.CellSizes.{fits-split}
+use Rattle.stored_spec.proofs.StoredCells.{cells_to, row_sum, begin, fit_all_lem, rows_all}
+use Rattle.stored.proofs.CellSteps.{cell_power, cells_same, cell_fit, cell_over, cell_counted}
+use Rattle.stored.proofs.formed.rows_of.Goals.{in-Some+else-not-fits, in_default}
 use Rattle.stored.proofs.formed.rows_of.Goals as goal
 
 pub loop-i-init : goal.loop-i-init
 loop-i-init c =
     let R = c.args.records.now in
-    let z = begin two_bytes R in
-    (omega arith, rw z.3 (none-begun R), sym z.1, omega arith)
+    let z = begin c.args.size R in
+    (c.start-walk.ensures R, z.0, sym z.1, omega arith)
 
-pub inputs_with-more-requires : goal.inputs_with-more-requires
-inputs_with-more-requires c =
-    let l = c.loop-i in
-    omega (arith, (begun-small l.invariant.1).0, l.invariant.0)
+pub returns-then-not-fits : goal.returns-then-not-fits
+returns-then-not-fits c =
+    sym (cond_no _ _ _ (cell_over _ _ c.next.ensures.0 c.in-Some.is _ c.loop-i-test.true (sym c.fits.ensures ∙ c.if-not-fits.true)))
 
-pub overflow_add-upper : goal.overflow_add-upper
-overflow_add-upper c =
-    let w = c.wide-v in
-    let w2 = c.wide-cut in
-    let w3 = c.wide-rail in
-    let iw = c.inputs_with-more in
-    let l = c.loop-i in
-    let R = c.args.records.now in
-    let i = l.i in
-    let t = turn l.invariant.1 w.ensures.0 w2.ensures.0 w3.ensures iw.ensures
-    (ap (λ (x : ℕ). cond (is_input x) (begun_outs R i) (begun_outs R i + 1)) (sym w.ensures.0)) in
-    omega (arith, (few_now t).0, l.invariant.0, l.invariant.1.small)
+pub overflow_shl-rows : goal.overflow_shl-rows
+overflow_shl-rows c = let few = (fits-split _ _ _ (sym c.fits.ensures ∙ c.if-not-fits.false)).0 in omega (arith, few)
 
-pub cell_rows-rows-requires : goal.cell_rows-rows-requires
-cell_rows-rows-requires c =
-    let w = c.wide-v in
-    let w2 = c.wide-cut in
-    let w3 = c.wide-rail in
-    let iw = c.inputs_with-more in
-    let l = c.loop-i in
-    let R = c.args.records.now in
-    let i = l.i in
-    let t = turn l.invariant.1 w.ensures.0 w2.ensures.0 w3.ensures iw.ensures
-    (ap (λ (x : ℕ). cond (is_input x) (begun_outs R i) (begun_outs R i + 1)) (sym w.ensures.0)) in
-    λ e.
-    let h = (cell-small two_bytes R c.requires.1 i (omega arith) (sym w2.ensures.0 ∙ e)).0 in
-    omega (arith, inputs_now t, h)
+pub overflow_add-rows : goal.overflow_add-rows
+overflow_add-rows c =
+    let p = cell_power (fits-split _ _ _ (sym c.fits.ensures ∙ c.if-not-fits.false)).0 in
+    omega (arith, p.0, p.1, c.loop-i.invariant.3, c.requires.0)
 
 pub loop-i-preserved : goal.loop-i-preserved
 loop-i-preserved c =
-    let w = c.wide-v in
-    let w2 = c.wide-cut in
-    let w3 = c.wide-rail in
-    let iw = c.inputs_with-more in
     let l = c.loop-i in
     let R = c.args.records.now in
-    let i = l.i in
-    let t = turn l.invariant.1 w.ensures.0 w2.ensures.0 w3.ensures iw.ensures
-    (ap (λ (x : ℕ). cond (is_input x) (begun_outs R i) (begun_outs R i + 1)) (sym w.ensures.0)) in
-    let d = next-outs R i ∙ ap (λ (x : ℕ). cond (eqb x 1) 0 (more_outs R i)) (sym w2.ensures.0) in
-    let r = c.cell_rows-rows in (
-      omega arith,
-      turn-begun t c.after-ins.ensures d c.after-upper.ensures,
-      turn-rows t l.invariant.2 r.ensures.0,
-      omega (arith, l.invariant.3, r.ensures.1),
-    )
+    let on = c.next.ensures in
+    elim c.match-next.branch [
+      | in-Some+else-not-fits w ↦
+          let fit = sym w.fits.ensures ∙ w.if-not-fits.false in
+          let p = cell_power (fits-split _ _ _ fit).0 in
+          let counted = cell_counted R l.i on.0 w.in-Some.is in (
+            on.1,
+            cell_fit R l.i on.0 w.in-Some.is _ ∙ and_join l.invariant.1 fit,
+            omega (arith, w.rows-is, p.0, l.invariant.2, counted),
+            omega (arith, w.rows-is, p.0, p.1, l.invariant.3),
+          )
+      | in_default w ↦
+          let same = cells_same R l.i on.0 w.in_default.is in
+          (on.1, rw same l.invariant.1, rw same (w.rows-is ∙ l.invariant.2), omega (arith, w.rows-is, l.invariant.3))
+    ]
 
 pub returns : goal.returns
 returns c =
     let R = c.args.records.now in
-    let e : c.loop-i.i ≡ record_count R = omega arith in
-    (rw e at c.loop-i.invariant.2) ∙ rows_all R
+    let l = c.loop-i in
+    let e : l.i ≡ record_count R = omega arith in
+    let all = sym (fit_all_lem _ R) ∙ rw e at l.invariant.1 in
+    ap Some (l.invariant.2 ∙ ap (λ (i : ℕ). row_sum (cells_to R i)) e ∙ rows_all R) ∙ sym (cond_yes _ _ _ all)

@@ -11,4 +11,5 @@ use Rattle.stored.proofs.formed.variable_bit.Goals as goal
 pub returns : goal.returns
 returns c =
     let p = place_of c.args.v in
-    shl_exact {a = 1} 1 p 64 (omega arith) (omega arith) ∙ one-mul (2 ^ p)
+    rw (c.from.ensures, c.from-2.ensures)
+    (shl_exact {a = 1} 1 p 64 (omega arith) (omega arith) ∙ one-mul (2 ^ p))

@@ -1,111 +1,76 @@
 -- `find_place` finds where cell k lies.
 -- Assumes nothing.
-use mathlib.Core.Path.{◌≡◌, sym, ◌∙◌, ap}
-use mathlib.Core.Bool.{cond}
-use Prim.Native.Nat.{ℕ, ◌≤◌, ◌<◌, ◌+◌}
+use mathlib.Core.Path.{◌≡◌, refl, sym, ◌∙◌, ap, ap₂}
+use Prim.Native.Nat.{ℕ, ◌+◌}
+use native.Mathlib.Omega.{arith}
 use lib.Dec.{eqb}
-use Rattle.laws.proofs.Cases.{cond_both}
-use Rattle.sheet_spec.specs.Job.{is_input}
+use borrow.Author.Tests.{ne_eqb}
 use Rattle.stored_spec.specs.RowBytes.{two_bytes}
 use Rattle.stored_spec.specs.StoredForm.{record_count}
+use Rattle.stored_spec.proofs.StoredCells.{begin}
 use Rattle.stored.specs.Places.{CellPlace}
-use Rattle.stored_spec.proofs.StoredCells.{begun_outs, more_outs, next-outs, begin, cell-small}
-use Rattle.stored.proofs.RecordSteps.{turn, none-begun, begun-small, few_now, inputs_now, turn-begun, turn-rows}
-use Rattle.stored.proofs.CellPlaces.{turn-cells, turn_top, turn_place, no_cells, place_all, begin_all}
-use native.Mathlib.Omega.{arith}
+use Rattle.stored.proofs.CellPlaces.{between_same, no_cells, place_all, begin_all, place_past, top_below}
+use Rattle.stored.proofs.CellSteps.{cell_power, cells_same, cell_few, cell_counted, cut_there}
+use Rattle.stored.proofs.CellFound.{place_found, not_yet}
+use Rattle.stored.proofs.Walks.{cell_begun}
+use Rattle.stored.proofs.places.find_place.Goals.{in-Some+else-here, in_default}
 use Rattle.stored.proofs.places.find_place.Goals as goal
 
 pub loop-i-init : goal.loop-i-init
 loop-i-init c =
     let R = c.args.records.now in
-    let z = begin two_bytes R in
-    let y = no_cells R (record_count R) c.args.k in (
-      omega arith,
-      rw z.3 (none-begun R),
-      sym z.1,
-      omega arith,
-      sym y.0,
-      omega arith,
-      sym y.1,
-      c.no_place-place.ensures ∙ sym y.2,
-    )
+    let y = no_cells R (record_count R) c.args.k in
+    (c.start-walk.ensures R, sym y.1, sym (begin two_bytes R).1, omega arith, omega (arith, y.0))
 
-pub inputs_with-more-requires : goal.inputs_with-more-requires
-inputs_with-more-requires c =
-    let l = c.loop-i in
-    let few = c.requires.0 in
-    omega (arith, (begun-small l.invariant.1).0, l.invariant.0, few)
-
-pub overflow_add-upper : goal.overflow_add-upper
-overflow_add-upper c =
-    let w = c.wide-v in
-    let w2 = c.wide-cut in
-    let w3 = c.wide-rail in
-    let iw = c.inputs_with-more in
-    let l = c.loop-i in
-    let R = c.args.records.now in
-    let i = l.i in
-    let t = turn l.invariant.1 w.ensures.0 w2.ensures.0 w3.ensures iw.ensures
-    (ap (λ (x : ℕ). cond (is_input x) (begun_outs R i) (begun_outs R i + 1)) (sym w.ensures.0)) in
-    omega (arith, (few_now t).0, l.invariant.0, l.invariant.1.small, c.requires.0)
-
-pub cell_rows-requires : goal.cell_rows-requires
-cell_rows-requires c =
-    let w = c.wide-v in
-    let w2 = c.wide-cut in
-    let w3 = c.wide-rail in
-    let iw = c.inputs_with-more in
-    let l = c.loop-i in
-    let R = c.args.records.now in
-    let i = l.i in
-    let t = turn l.invariant.1 w.ensures.0 w2.ensures.0 w3.ensures iw.ensures
-    (ap (λ (x : ℕ). cond (is_input x) (begun_outs R i) (begun_outs R i + 1)) (sym w.ensures.0)) in
-    λ e.
-    let less : i < record_count R = c.loop-i-test.true in
-    let h = (cell-small two_bytes R c.requires.1 i less (sym w2.ensures.0 ∙ e)).0 in
-    omega (arith, inputs_now t, h)
+pub overflow_shl-end : goal.overflow_shl-end
+overflow_shl-end c =
+    let few = cell_few _ _ c.next.ensures.0 c.in-Some.is _ c.requires.1 c.loop-i-test.true in
+    omega (arith, few.0)
 
 pub overflow_add-end : goal.overflow_add-end
 overflow_add-end c =
-    let l = c.loop-i in
-    let few = c.requires.0 in
-    omega (arith, l.invariant.3, l.invariant.0, c.cell_rows.ensures.1, few)
+    let few = cell_few _ _ c.next.ensures.0 c.in-Some.is _ c.requires.1 c.loop-i-test.true in
+    let p = cell_power few.0 in
+    omega (arith, p.0, p.1, c.loop-i.invariant.3, c.requires.0)
 
-pub overflow_add-cell : goal.overflow_add-cell
-overflow_add-cell c =
+pub returns-then-here : goal.returns-then-here
+returns-then-here c =
+    let R = c.args.records.now in
     let l = c.loop-i in
-    let few = c.requires.0 in
-    let one = cond_both (λ (x : ℕ). x ≤ 1) (eqb c.wide-cut.result 1) {x = 1} {y = 0} (omega arith) (omega arith) in
-    omega (arith, l.invariant.0, l.invariant.5, c.after-cell.ensures, one, few)
+    let on = c.next.ensures.0 in
+    let few = cell_few R l.i on c.in-Some.is two_bytes c.requires.1 c.loop-i-test.true in
+    let at = sym (cell_begun R l.i l.invariant.0) ∙ c.if-here.true in
+    let end = ap₂ (λ (x y : ℕ). x + y) l.invariant.2 (cell_power few.0).0 ∙ sym (cell_counted R l.i on c.in-Some.is) in
+    let found = between_same l.invariant.1 refl l.invariant.2 end ∙ place_found R l.i c.args.k (cut_there R l.i on c.in-Some.is).0 at c.loop-i-test.true (record_count R) in
+    (λ h. found ∙ place_all R c.args.k h, λ h. ap (λ (q : CellPlace). q.at) found ∙ begin_all R c.args.k h)
 
 pub loop-i-preserved : goal.loop-i-preserved
 loop-i-preserved c =
-    let w = c.wide-v in
-    let w2 = c.wide-cut in
-    let w3 = c.wide-rail in
-    let iw = c.inputs_with-more in
-    let l = c.loop-i in
     let R = c.args.records.now in
-    let i = l.i in
-    let t = turn l.invariant.1 w.ensures.0 w2.ensures.0 w3.ensures iw.ensures
-    (ap (λ (x : ℕ). cond (is_input x) (begun_outs R i) (begun_outs R i + 1)) (sym w.ensures.0)) in
-    let d = next-outs R i ∙ ap (λ (x : ℕ). cond (eqb x 1) 0 (more_outs R i)) (sym w2.ensures.0) in
-    let r = c.cell_rows in
-    let one = c.after-cell in
-    let end = turn-rows t l.invariant.2 r.ensures.0 in (
-      omega (arith, c.loop-i-test.true),
-      turn-begun t c.after-ins.ensures d c.after-upper.ensures,
-      end,
-      omega (arith, l.invariant.3, r.ensures.1),
-      turn-cells R i w2.ensures.0 l.invariant.4 one.ensures,
-      omega (arith, l.invariant.5, one.ensures, cond_both (λ (x : ℕ). x ≤ 1) (eqb w2.result 1) {x = 1} {y = 0} (omega arith) (omega arith)),
-      turn_top R i w2.ensures.0 (record_count R) l.invariant.6 c.after-top.ensures,
-      turn_place R i w2.ensures.0 (record_count R) c.args.k l.invariant.6 l.invariant.2 end l.invariant.4 l.invariant.7 c.placed-place.ensures,
-    )
+    let l = c.loop-i in
+    let k = c.args.k in
+    let on = c.next.ensures in
+    let at = cell_begun R l.i l.invariant.0 in
+    elim c.match-next.branch [
+      | in-Some+else-here w ↦
+          let cut = (cut_there R l.i on.0 w.in-Some.is).0 in
+          let few = cell_few R l.i on.0 w.in-Some.is two_bytes c.requires.1 c.loop-i-test.true in
+          let p = cell_power few.0 in
+          let counted = cell_counted R l.i on.0 w.in-Some.is in (
+            on.1,
+            w.top-is ∙ top_below R l.i (record_count R) cut,
+            omega (arith, w.at-is, p.0, l.invariant.2, counted),
+            omega (arith, w.at-is, p.0, p.1, l.invariant.3),
+            not_yet R l.i k _ cut (ap (λ (n : ℕ). eqb n k) (sym at) ∙ ne_eqb _ _ w.if-here.false) l.invariant.4,
+          )
+      | in_default w ↦
+          let same = cells_same R l.i on.0 w.in_default.is in
+          (on.1, rw same (w.top-is ∙ l.invariant.1), rw same (w.at-is ∙ l.invariant.2), omega (arith, w.at-is, l.invariant.3), rw same l.invariant.4)
+    ]
 
 pub returns : goal.returns
 returns c =
     let R = c.args.records.now in
     let e : c.loop-i.i ≡ record_count R = omega arith in
-    let p = rw e at c.loop-i.invariant.7 in
-    (λ h. p ∙ place_all R c.args.k h, λ l. ap (λ (q : CellPlace). q.at) p ∙ begin_all R c.args.k l)
+    let none = place_past R (record_count R) c.args.k (rw e at c.loop-i.invariant.4) in
+    (λ h. none ∙ place_all R c.args.k h, λ h. ap (λ (q : CellPlace). q.at) none ∙ begin_all R c.args.k h)

@@ -18,4 +18,4 @@ returns-then-records_formed c = c.find_place.ensures.0 (sym c.records_formed.ens
 pub returns : goal.returns
 returns c =
     let a = c.args in
-    c.no_place.ensures ∙ place_none a.records.now a.k (sym c.records_formed.ensures ∙ c.if-records_formed.false)
+    place_none a.records.now a.k (sym c.records_formed.ensures ∙ c.if-records_formed.false)

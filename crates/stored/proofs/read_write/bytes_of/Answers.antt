@@ -1,18 +1,21 @@
--- `stored::read_write::bytes_of` meets its contract.
+-- `bytes_of` stores each record.
 -- Assumes nothing.
-use mathlib.Core.Path.{◌≡◌}
-use mathlib.Core.Bool.{false}
+use mathlib.Core.Path.{◌≡◌, refl, ◌∙◌}
 use lib.ListN.{get_or}
-use Rattle.stored.specs.RecordArrays.{records_of}
 use native.Mathlib.Omega.{arith}
+use Rattle.stored_spec.specs.ReadWrite.{no_record}
+use Rattle.stored.specs.RecordArrays.{records_of}
 use Rattle.stored.proofs.read_write.RecordArrays.{bytes_next}
+use Rattle.stored.proofs.CellPlaces.{from_cut}
 use Rattle.stored.proofs.read_write.bytes_of.Goals as goal
+
+pub loop-i-init : goal.loop-i-init
+loop-i-init c = (omega arith, refl)
 
 pub loop-i-preserved : goal.loop-i-preserved
 loop-i-preserved c =
     let l = c.loop-i in
-    let a = c.args in
-    (omega arith, bytes_next (λ k. record { variable = get_or a.from.variables k 0; cut = get_or a.from.cuts k false; rails = get_or a.from.rails k 0 }) l.i _ _ _ l.invariant.1 c.flag_of.ensures)
+    (omega arith, bytes_next (λ k. get_or c.args.from.records k no_record) l.i _ _ _ l.invariant.1 (c.from.ensures ∙ from_cut _))
 
 pub returns : goal.returns
 unfolding records_of

@@ -1,11 +1,10 @@
 -- `stored::read_write::read_records` meets its contract.
 -- Assumes nothing.
 use mathlib.Core.Path.{sym, ◌∙◌, ap}
-use Rattle.stored.specs.RecordArrays.{StoredRecords, structure_of, read_as}
+use Rattle.stored.specs.RecordArrays.{StoredRecords, read_as}
 use Rattle.stored_spec.specs.RowBytes.{two_bytes}
 use Rattle.stored_spec.specs.ReadWrite.{cascade_of}
 use Rattle.stored_spec.proofs.StoredParts.{records_have}
-use Rattle.laws.specs.Lists.{puts}
 use Rattle.stored_spec.proofs.ReadWriteCases.{formed-records, read-formed, read-other}
 use Rattle.stored.proofs.read_write.read_records.Goals as goal
 
@@ -22,7 +21,6 @@ returns-then-formed c =
     ap (λ (x : StoredRecords). record { refusal = 0; records = x }) c.take_apart.ensures ∙ ap read_as (sym e)
 
 pub returns : goal.returns
-unfolding structure_of puts
 returns c =
     let a = c.args in
     ap read_as (sym (read-other a.records.now a.rows.now (sym c.formed.ensures ∙ c.if-formed.false)))

@@ -5,7 +5,7 @@ use mathlib.Core.List.{List}
 use Prim.Native.Nat.{ℕ, ◌≤◌}
 use native.Mathlib.Omega.{arith}
 use lib.ListN.{length}
-use Rattle.laws.proofs.Puts.{copied}
+use Rattle.stored.proofs.read_write.Copies.{copied_whole}
 use Rattle.stored_spec.specs.ReadWrite.{written_as}
 use Rattle.stored_spec.proofs.ReadWriteCases.{write-other, write-short, write-few, write-formed}
 use Rattle.stored.proofs.read_write.write_bytes.Goals as goal
@@ -13,24 +13,24 @@ use Rattle.stored.proofs.read_write.write_bytes.Goals as goal
 pub returns-then-records-stored : goal.returns-then-records-stored
 returns-then-records-stored c =
     let a = c.args in
-    sym (write-short a.stored.now a.bytes.now a.records.now a.rows.now (sym c.formed.ensures ∙ c.if-formed.true) (omega arith))
+    sym (write-short a.stored.now a.bytes.now a.records.now a.rows.now (sym c.formed.ensures ∙ c.if-not-formed.false) (omega arith))
 
 pub returns-then-rows-bytes : goal.returns-then-rows-bytes
 returns-then-rows-bytes c =
     let a = c.args in
-    sym (write-few a.stored.now a.bytes.now a.records.now a.rows.now (sym c.formed.ensures ∙ c.if-formed.true) (omega arith) (omega arith))
+    sym (write-few a.stored.now a.bytes.now a.records.now a.rows.now (sym c.formed.ensures ∙ c.if-not-formed.false) (omega arith) (omega arith))
 
-pub returns-then-formed : goal.returns-then-formed
-returns-then-formed c =
+pub returns-then-not-formed : goal.returns-then-not-formed
+returns-then-not-formed c =
+    let a = c.args in
+    sym (write-other a.stored.now a.bytes.now a.records.now a.rows.now (sym c.formed.ensures ∙ c.if-not-formed.true))
+
+pub returns : goal.returns
+returns c =
     let a = c.args in
     let S = a.stored.now in
     let R = a.bytes.now in
     let h : length S ≤ length a.records.now = omega (arith, c.if-records-stored.false) in
     let k : length R ≤ length a.rows.now = omega (arith, c.if-rows-bytes.false) in
-    ap₂ (λ (x y : List ℕ). written_as 0 x y) (c.copy_bytes.ensures ∙ copied S a.records.now h) (c.copy_bytes-then-formed.ensures ∙ copied R a.rows.now k)
-    ∙ sym (write-formed S R a.records.now a.rows.now (sym c.formed.ensures ∙ c.if-formed.true) h k)
-
-pub returns : goal.returns
-returns c =
-    let a = c.args in
-    sym (write-other a.stored.now a.bytes.now a.records.now a.rows.now (sym c.formed.ensures ∙ c.if-formed.false))
+    ap₂ (λ (x y : List ℕ). written_as 0 x y) (copied_whole S a.records.now c.copy_from_slice.ensures.after) (copied_whole R a.rows.now c.copy_from_slice-2.ensures.after)
+    ∙ sym (write-formed S R a.records.now a.rows.now (sym c.formed.ensures ∙ c.if-not-formed.false) h k)

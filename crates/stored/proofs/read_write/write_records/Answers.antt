@@ -12,33 +12,30 @@ use Rattle.stored.proofs.read_write.RecordArrays.{too_many_lem, length-records, 
 use Rattle.stored_spec.proofs.ReadWriteCases.{write-other}
 use Rattle.stored.proofs.read_write.write_records.Goals as goal
 
-pub returns-then-count-gt20 : goal.returns-then-count-gt20
+pub returns-then-from-gt-MOST_VARIABLES : goal.returns-then-from-gt-MOST_VARIABLES
 unfolding write
-returns-then-count-gt20 c =
+returns-then-from-gt-MOST_VARIABLES c =
     let a = c.args in
     let rs = records_of a.from in
-    let many : 20 < length rs = omega (arith, length-records a.from, c.wide-count.ensures.0, c.if-count-gt20.true) in
+    let many : 20 < length rs = omega (arith, length-records a.from, c.if-from-gt-MOST_VARIABLES.true) in
     sym (write-other (record_bytes rs) a.bytes.now a.records.now a.rows.now (too_many_lem rs a.bytes.now many))
 
 pub slice_bounds-stored-end : goal.slice_bounds-stored-end
 slice_bounds-stored-end c =
     let a = c.args in
-    let w = c.wide-count in
-    (stored_bytes (records_of a.from) _ c.bytes_of.new.bytes (length-records a.from ∙ sym w.ensures.0) (omega arith) c.bytes_of.ensures).0
+    (stored_bytes (records_of a.from) _ c.bytes_of.new.bytes (length-records a.from) (omega arith) c.bytes_of.ensures).0
 
 pub slice_bounds-write_bytes-end : goal.slice_bounds-write_bytes-end
 slice_bounds-write_bytes-end c =
     let a = c.args in
-    let w = c.wide-count in
     let s = c.bytes_of.new.bytes in
-    sym (length-take-le _ s (stored_bytes (records_of a.from) _ s (length-records a.from ∙ sym w.ensures.0) (omega arith) c.bytes_of.ensures).0)
+    sym (length-take-le _ s (stored_bytes (records_of a.from) _ s (length-records a.from) (omega arith) c.bytes_of.ensures).0)
 
 pub returns : goal.returns
 unfolding write
 returns c =
     let a = c.args in
-    let w = c.wide-count in
     let s = c.bytes_of.new.bytes in
     c.write_bytes.ensures
     ∙ ap (λ (x : List ℕ). write_bytes x a.bytes.now a.records.now a.rows.now)
-    (stored_bytes (records_of a.from) _ s (length-records a.from ∙ sym w.ensures.0) (omega arith) c.bytes_of.ensures).1
+    (stored_bytes (records_of a.from) _ s (length-records a.from) (omega arith) c.bytes_of.ensures).1

@@ -1,14 +1,10 @@
 -- `count_cells` counts the cells of any records.
 -- Assumes nothing.
 use mathlib.Core.Path.{◌≡◌}
-use Prim.Native.Nat.{◌≤◌, ◌-◌}
 use lib.ListN.{length}
 use Rattle.stored_spec.proofs.StoredCells.{cells_to}
 use Rattle.stored.proofs.reads.count_cells.Given as goal
 
 abbrev pub invariant-loop-i : goal.invariant-loop-i
 invariant-loop-i l =
-    (l.i ≤ l.count) × (l.cells ≡ length (cells_to l.records l.i))
-
-abbrev pub decreases-loop-i : goal.decreases-loop-i
-decreases-loop-i l = l.count - l.i
+    l.cells ≡ length (cells_to l.records l.i)

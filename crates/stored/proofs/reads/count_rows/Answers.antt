@@ -1,14 +1,16 @@
 -- `count_rows` counts the rows of records whose cells fit.
 -- Assumes nothing.
-use mathlib.Core.Path.{sym, ◌∙◌}
-use Rattle.stored.proofs.CellReads.{fit_parts, rows_counted_lem, rows_uncounted}
+use mathlib.Core.Path.{◌∙◌, ap}
+use Prim.Native.Nat.{ℕ}
+use Rattle.std.specs.Prelude.{Option}
+use Rattle.std.specs.Option.{unwrap_or}
+use Rattle.stored_spec.specs.StoredForm.{row_count}
+use Rattle.stored.specs.Reads.{cells_fit, rows_counted}
+use Rattle.stored.proofs.Given.{unwrap_given}
 use Rattle.stored.proofs.reads.count_rows.Goals as goal
 
-pub rows_of-requires : goal.rows_of-requires
-rows_of-requires c = fit_parts c.args.records.now (sym c.few_fit.ensures ∙ c.if-few_fit.true)
-
-pub returns-then-few_fit : goal.returns-then-few_fit
-returns-then-few_fit c = c.rows_of.ensures ∙ rows_counted_lem c.args.records.now (sym c.few_fit.ensures ∙ c.if-few_fit.true)
-
 pub returns : goal.returns
-returns c = rows_uncounted c.args.records.now (sym c.few_fit.ensures ∙ c.if-few_fit.false)
+unfolding rows_counted
+returns c =
+    let R = c.args.records.now in
+    c.unwrap_or.ensures ∙ ap (λ (o : Option ℕ). unwrap_or o 0) c.few_rows.ensures ∙ unwrap_given (cells_fit R) (row_count R) 0

@@ -1,7 +1,7 @@
 -- `find_address` finds the row address in a cell.
 -- Assumes nothing.
 use mathlib.Core.Path.{◌≡◌}
-use Prim.Native.Nat.{◌≤◌, ◌<◌, ◌+◌, ◌-◌, ◌^◌}
+use Prim.Native.Nat.{◌<◌, ◌+◌, ◌^◌}
 use lib.ListN.{length}
 use Rattle.stored_spec.specs.Run.{address}
 use Rattle.stored_spec.proofs.StoredCells.{cells_to}
@@ -10,7 +10,4 @@ use Rattle.stored.proofs.reads.find_address.Given as goal
 
 abbrev pub invariant-loop-i : goal.invariant-loop-i
 invariant-loop-i l =
-    (l.i ≤ l.count) × (l.cell ≡ length (cells_to l.records l.i)) × (l.a ≡ address l.rail (part_to l.records l.i l.k).ins l.word) × (l.a < 2 ^ (l.i + 16))
-
-abbrev pub decreases-loop-i : goal.decreases-loop-i
-decreases-loop-i l = l.count - l.i
+    (l.cell ≡ length (cells_to l.records l.i)) × (l.a ≡ address l.rail (part_to l.records l.i l.k).ins l.word) × (l.a < 2 ^ (l.i + 16))

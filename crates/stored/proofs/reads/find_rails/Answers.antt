@@ -1,48 +1,42 @@
 -- `find_rails` finds the rails of a cell.
 -- Assumes nothing.
 use mathlib.Core.Path.{◌≡◌, refl, sym, ◌∙◌, ap, ap₂}
+use mathlib.Core.Bool.{Bool, ◌&&◌}
 use Prim.Native.Nat.{ℕ}
-use Rattle.stored_spec.specs.StoredForm.{StoredCell, record_count}
-use Rattle.stored.proofs.CellPlaces.{turn-cells}
-use Rattle.stored.proofs.CellReads.{turn-upper, turn-lower, part_none, cells-none, few-cells, cells-few, whole_part, rails-cell, some-rails}
 use native.Mathlib.Omega.{arith}
+use lib.Dec.{eqb}
+use borrow.Author.Tests.{eqb-true}
+use Rattle.laws.proofs.Cases.{and_split}
+use Rattle.stored_spec.specs.StoredForm.{record_count, cut_byte, rail_byte}
+use Rattle.stored.proofs.CellReads.{cells-none}
+use Rattle.stored.proofs.CellFound.{rails, rails_found, rails_none, not_yet, some_is}
+use Rattle.stored.proofs.Walks.{cell_begun, upper_begun}
 use Rattle.stored.proofs.reads.find_rails.Goals as goal
 
 pub loop-i-init : goal.loop-i-init
 loop-i-init c =
     let R = c.args.records.now in
-    let e = part_none R c.args.k in
-    (omega arith, cells-none R, sym (ap (λ (d : StoredCell). d.upper) e), sym (ap (λ (d : StoredCell). d.lower) e))
+    let none = cells-none R in
+    (c.start-walk.ensures R, omega arith)
 
-pub overflow_add-cell : goal.overflow_add-cell
-overflow_add-cell c =
+pub returns-then-is_some-begun : goal.returns-then-is_some-begun
+returns-then-is_some-begun c =
+    let R = c.args.records.now in
     let l = c.loop-i in
-    omega (arith, l.invariant.1, cells-few c.args.records.now l.i)
-
-pub overflow_add-cell-in-loop-i : goal.overflow_add-cell-in-loop-i
-overflow_add-cell-in-loop-i c =
-    let l = c.loop-i in
-    omega (arith, few-cells c.args.records.now l.i c.wide-cut.result l.invariant.1 c.after-cell.ensures)
+    let (some, here) = and_split _ (eqb l.walk.cell c.args.k) c.if-is_some-begun.true in
+    let cut = sym (c.is_some.ensures ∙ some_is R l.i c.args.k c.next.ensures.0) ∙ some in
+    let at = sym (cell_begun R l.i l.invariant.0) ∙ eqb-true l.walk.cell c.args.k here in
+    ap (λ (u : ℕ). rails u (rail_byte R l.i)) (upper_begun R l.i l.invariant.0) ∙ rails_found R l.i c.args.k cut at c.loop-i-test.true
 
 pub loop-i-preserved : goal.loop-i-preserved
 loop-i-preserved c =
+    let R = c.args.records.now in
     let l = c.loop-i in
-    let a = c.args in
-    let R = a.records.now in
-    let cut = c.wide-cut.ensures.0 in (
-      omega (arith, c.loop-i-test.true),
-      turn-cells R l.i cut l.invariant.1 c.after-cell.ensures,
-      turn-upper R l.i a.k l.invariant.1 cut refl l.invariant.2 c.chosen-upper.ensures,
-      turn-lower R l.i a.k l.invariant.1 cut refl l.invariant.3 c.chosen-lower.ensures,
-    )
+    let test = ap₂ (λ (b : Bool) (n : ℕ). b && eqb n c.args.k) (c.is_some.ensures ∙ some_is R l.i c.args.k c.next.ensures.0) (cell_begun R l.i l.invariant.0) in
+    (c.next.ensures.1, not_yet R l.i c.args.k (eqb (cut_byte R l.i) 1) refl (sym test ∙ c.if-is_some-begun.false) l.invariant.1)
 
 pub returns : goal.returns
 returns c =
-    let a = c.args in
-    let R = a.records.now in
-    let l = c.loop-i in
-    let e : l.i ≡ record_count R = omega arith in
-    let w = whole_part R a.k (rails-cell R a.k c.requires) in
-    ap₂ (λ (x y : ℕ). record { upper = x; lower = y }) ((rw e at l.invariant.2) ∙ ap (λ (d : StoredCell). d.upper) w)
-    ((rw e at l.invariant.3) ∙ ap (λ (d : StoredCell). d.lower) w)
-    ∙ some-rails R a.k c.requires
+    let R = c.args.records.now in
+    let e : c.loop-i.i ≡ record_count R = omega arith in
+    rails_none R c.args.k (rw e at c.loop-i.invariant.1)

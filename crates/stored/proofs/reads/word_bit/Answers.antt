@@ -6,4 +6,4 @@ use native.Mathlib.Omega.{arith}
 use Rattle.stored.proofs.reads.word_bit.Goals as goal
 
 pub returns : goal.returns
-returns c = let a = c.args in sym (bit_past a.word 16 a.v c.requires (omega (arith, c.if-v-lt16.false)))
+returns c = let a = c.args in sym (bit_past a.word 16 a.v (omega arith) (omega arith))

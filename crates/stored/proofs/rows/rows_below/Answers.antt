@@ -1,40 +1,52 @@
 -- `rows_below` tests some rows by the bits that some of them has.
 -- Assumes nothing.
-use mathlib.Core.Path.{◌≡◌, sym, ◌∙◌, ap₂}
-use Prim.Native.Nat.{ℕ, ◌+◌, ◌-◌, ◌*◌, ◌%◌, ◌^◌, ◌≤◌}
+use mathlib.Core.Path.{◌≡◌, ◌∙◌, ap, ap₂}
+use Prim.Native.Nat.{ℕ, ◌+◌, ◌*◌, ◌%◌, ◌^◌, ◌≤◌}
 use lib.Dec.{ltb}
 use lib.ListN.{take, drop}
 use lib.Pow.{pow_mono}
 use native.Mathlib.Omega.{arith}
-use Rattle.stored_spec.specs.RowBytes.{two_bytes, room}
-use Rattle.stored_spec.proofs.RowForms.{room_two}
+use Rattle.stored_spec.specs.RowBytes.{room}
 use Rattle.stored.specs.Formed.{bits_of}
-use Rattle.stored.proofs.rows.RowBytes.{bits_below, any_below}
+use Rattle.stored.proofs.CellSteps.{cell_power}
+use Rattle.stored.proofs.rows.RowBytes.{bits_below, any_below, room_some, cut_out}
 use Rattle.stored.proofs.rows.rows_below.Goals as goal
 
-pub returns-then-outputs-eq-MAX_OUTPUTS : goal.returns-then-outputs-eq-MAX_OUTPUTS
-returns-then-outputs-eq-MAX_OUTPUTS c =
+pub returns-then-cell : goal.returns-then-cell
+returns-then-cell g c =
     let a = c.args in
-    any_below a.rows.now a.at a.outputs c.if-outputs-eq-MAX_OUTPUTS.true (λ i. omega (arith, c.shared_slice_known-1.given i)) a.count
+    any_below g.row.SIZE a.rows.now a.at a.cell.outputs c.if-cell.true c.type_inv.rows (2 ^ a.cell.inputs)
 
 pub overflow_add-end : goal.overflow_add-end
-overflow_add-end c = omega (arith, c.requires.0, room_two (c.args.at + c.args.count))
+overflow_add-end g c =
+    let a = c.args in
+    omega (arith, (cell_power c.requires.2).0, c.requires.4, room_some g.row.SIZE (a.at + 2 ^ a.cell.inputs) c.requires.0)
 
 pub overflow_mul-at : goal.overflow_mul-at
-overflow_mul-at c = omega (arith, c.requires.0, room_two (c.args.at + c.args.count))
+overflow_mul-at g c =
+    let a = c.args in
+    omega (arith, (cut_out g.row.SIZE a.rows.now a.at (2 ^ a.cell.inputs) c.requires.4).0)
 
 pub overflow_mul-end : goal.overflow_mul-end
-overflow_mul-end c = omega (arith, c.requires.0, room_two (c.args.at + c.args.count))
+overflow_mul-end g c =
+    let a = c.args in
+    let cut = cut_out g.row.SIZE a.rows.now a.at (2 ^ a.cell.inputs) c.requires.4 in
+    rw (cell_power c.requires.2).0 (omega (arith, cut.1))
 
 pub slice_bounds-bits_of-end : goal.slice_bounds-bits_of-end
-slice_bounds-bits_of-end c = omega (arith, c.requires.0, room_two (c.args.at + c.args.count))
+slice_bounds-bits_of-end g c =
+    let a = c.args in
+    let cut = cut_out g.row.SIZE a.rows.now a.at (2 ^ a.cell.inputs) c.requires.4 in
+    rw (cell_power c.requires.2).0 (omega (arith, cut.1))
 
 pub returns : goal.returns
-returns c =
+unfolding room
+returns g c =
     let a = c.args in
-    let few : 2 ^ a.outputs ≤ 2 ^ 16 = pow_mono c.requires.1 in
-    let power : 1 * 2 ^ a.outputs % 2 ^ 64 ≡ 2 ^ a.outputs = omega (arith, few) in
-    let some : (a.at + a.count) * 2 - a.at * 2 ≡ room two_bytes a.count = omega (arith, room_two a.count) in
-    let part = ap₂ (λ (n m : ℕ). bits_of two_bytes (take n (drop m a.rows.now))) some (sym (room_two a.at)) in
-    ap₂ ltb (c.wide16-seen.ensures.0 ∙ c.bits_of.ensures ∙ part) power
-    ∙ bits_below two_bytes (omega arith) a.rows.now a.at a.outputs a.count c.requires.0
+    let power = (cell_power {n = a.cell.inputs} c.requires.2).0 in
+    let cut = cut_out g.row.SIZE a.rows.now a.at (2 ^ a.cell.inputs) c.requires.4 in
+    let few : a.cell.outputs ≤ 16 = omega (arith, c.requires.3, c.requires.1) in
+    let small = pow_mono few in
+    let whole : 1 * 2 ^ a.cell.outputs % 2 ^ 64 ≡ 2 ^ a.cell.outputs = omega (arith, small) in
+    let part = rw power at (c.from.ensures ∙ c.bits_of-seen.ensures) ∙ ap (λ (n : ℕ). bits_of g.row.SIZE (take n (drop (a.at * g.row.SIZE) a.rows.now))) cut.2 in
+    ap₂ ltb part whole ∙ bits_below g.row.SIZE c.requires.0 a.rows.now a.at a.cell.outputs (2 ^ a.cell.inputs) c.requires.4

@@ -1,125 +1,71 @@
 -- `rows_formed` tests the rows of each cell.
 -- Assumes nothing.
-use mathlib.Core.Path.{◌≡◌, sym, ◌∙◌, ap}
-use Prim.Native.Nat.{ℕ, ◌<◌, ◌+◌, ◌^◌}
-use Rattle.stored_spec.specs.RowBytes.{two_bytes}
+use mathlib.Core.Path.{◌≡◌, sym, ◌∙◌}
+use Prim.Native.Nat.{◌+◌, ◌^◌}
+use native.Mathlib.Omega.{arith}
+use Rattle.laws.proofs.Cases.{and_join}
 use Rattle.stored_spec.specs.StoredForm.{record_count, row_count}
 use Rattle.stored_spec.proofs.RowForms.{room_rise}
-use Rattle.stored_spec.proofs.StoredCells.{rows_below, begin, bytes_begin, bytes-all, cell-small, cell_inside}
-use Rattle.stored.proofs.RecordSteps.{turn, none-begun, begun-small, few_now, inputs_now, outputs_now, turn-begun, turn-rows, turn-bytes}
-use native.Mathlib.Omega.{arith}
+use Rattle.stored.proofs.rows.RowBytes.{room_some}
+use Rattle.stored_spec.proofs.StoredCells.{rows_below, begin, bytes_begin, bytes-all}
+use Rattle.stored.proofs.CellSteps.{cell_power, cells_same, cell_few, cell_among, cell_counted, cell_bytes, bytes_over}
+use Rattle.stored.proofs.rows.rows_formed.Goals.{in-Some+else-not-rows_below, in_default}
 use Rattle.stored.proofs.rows.rows_formed.Goals as goal
 
 pub loop-i-init : goal.loop-i-init
-loop-i-init c =
-    let a = c.args in
-    let R = a.records.now in
-    (omega arith, none-begun R, sym (begin two_bytes R).1, omega arith, sym (bytes_begin a.size a.rows.now R))
-
-pub inputs_with-more-requires : goal.inputs_with-more-requires
-inputs_with-more-requires c =
-    let l = c.loop-i in
-    omega (arith, (begun-small l.invariant.1).0, l.invariant.0, c.requires.0)
-
-pub outputs_with-over-requires : goal.outputs_with-over-requires
-outputs_with-over-requires c =
-    let l = c.loop-i in
-    omega (arith, (begun-small l.invariant.1).1, l.invariant.0, c.requires.0)
-
-pub overflow_add-upper : goal.overflow_add-upper
-overflow_add-upper c =
-    let w = c.wide-v in
-    let w2 = c.wide-cut in
-    let w3 = c.wide-rail in
-    let iw = c.inputs_with-more in
-    let ow = c.outputs_with-over in
-    let l = c.loop-i in
-    let t = turn l.invariant.1 w.ensures.0 w2.ensures.0 w3.ensures iw.ensures ow.ensures in
-    omega (arith, (few_now t).0, l.invariant.0, l.invariant.1.small, c.requires.0)
-
-pub overflow_add-over : goal.overflow_add-over
-overflow_add-over c =
-    let w = c.wide-v in
-    let w2 = c.wide-cut in
-    let w3 = c.wide-rail in
-    let iw = c.inputs_with-more in
-    let ow = c.outputs_with-over in
-    let l = c.loop-i in
-    let t = turn l.invariant.1 w.ensures.0 w2.ensures.0 w3.ensures iw.ensures ow.ensures in
-    omega (arith, (few_now t).1, l.invariant.0, w3.ensures.1, c.requires.0)
-
-pub cell_below-formed-requires : goal.cell_below-formed-requires
-cell_below-formed-requires c =
-    let w = c.wide-v in
-    let w2 = c.wide-cut in
-    let w3 = c.wide-rail in
-    let iw = c.inputs_with-more in
-    let ow = c.outputs_with-over in
-    let l = c.loop-i in
+loop-i-init g c =
     let R = c.args.records.now in
-    let i = l.i in
-    let t = turn l.invariant.1 w.ensures.0 w2.ensures.0 w3.ensures iw.ensures ow.ensures in (
-      c.requires.1,
-      c.requires.2,
-      λ e.
-          let q = sym w2.ensures.0 ∙ e in
-          let less : i < record_count R = c.loop-i-test.true in
-          let h = cell-small c.args.size R c.requires.3 i less q in
-          let inside = cell_inside c.args.size R c.requires.3 i less q in
-          let power = ap (λ (x : ℕ). 2 ^ x) (inputs_now t) in
-          let rise = room_rise c.args.size (l.at + 2 ^ (l.upper + iw.result)) (row_count R) (omega (arith, inside, power, l.invariant.2)) in
-          (omega (arith, inputs_now t, h.0), omega (arith, outputs_now t, h.1), omega (arith, rise, c.requires.4)),
-    )
+    (c.start-walk.ensures R, sym (begin g.row.SIZE R).1, bytes_begin _ _ R)
 
-pub overflow_add-upper-in-loop-i : goal.overflow_add-upper-in-loop-i
-overflow_add-upper-in-loop-i c =
-    let w = c.wide-v in
-    let w2 = c.wide-cut in
-    let w3 = c.wide-rail in
-    let iw = c.inputs_with-more in
-    let ow = c.outputs_with-over in
-    let l = c.loop-i in
-    let t = turn l.invariant.1 w.ensures.0 w2.ensures.0 w3.ensures iw.ensures ow.ensures in
-    omega (arith, (few_now t).0, l.invariant.0, l.invariant.1.small, c.requires.0)
-
-pub cell_rows-at-requires : goal.cell_rows-at-requires
-cell_rows-at-requires c =
-    let w = c.wide-v in
-    let w2 = c.wide-cut in
-    let w3 = c.wide-rail in
-    let iw = c.inputs_with-more in
-    let ow = c.outputs_with-over in
-    let l = c.loop-i in
+pub rows_below-requires : goal.rows_below-requires
+rows_below-requires g c =
     let R = c.args.records.now in
-    let i = l.i in
-    let t = turn l.invariant.1 w.ensures.0 w2.ensures.0 w3.ensures iw.ensures ow.ensures in
-    λ e.
-    let less : i < record_count R = c.loop-i-test.true in
-    let h = (cell-small c.args.size R c.requires.3 i less (sym w2.ensures.0 ∙ e)).0 in
-    omega (arith, inputs_now t, h)
+    let l = c.loop-i in
+    let few = cell_few R l.i c.next.ensures.0 c.in-Some.is g.row.SIZE c.requires.2 c.loop-i-test.true in
+    let among = cell_among R l.i c.next.ensures.0 c.in-Some.is g.row.SIZE c.requires.2 c.loop-i-test.true in
+    let rise = room_rise g.row.SIZE (l.at + 2 ^ c.in-Some.cell.inputs) (row_count R) (omega (arith, among, l.invariant.1)) in
+    (c.requires.0, c.requires.1, few.0, few.1, omega (arith, rise, c.requires.3))
+
+pub returns-then-not-rows_below : goal.returns-then-not-rows_below
+unfolding rows_below
+returns-then-not-rows_below g c =
+    sym (bytes_over _ _ c.next.ensures.0 c.in-Some.is _ _ c.loop-i.invariant.1 c.loop-i-test.true (sym c.rows_below.ensures ∙ c.if-not-rows_below.true))
+
+pub overflow_shl-at : goal.overflow_shl-at
+overflow_shl-at g c =
+    let few = cell_few _ _ c.next.ensures.0 c.in-Some.is _ c.requires.2 c.loop-i-test.true in
+    omega (arith, few.0)
+
+pub overflow_add-at : goal.overflow_add-at
+overflow_add-at g c =
+    let R = c.args.records.now in
+    let l = c.loop-i in
+    let few = cell_few R l.i c.next.ensures.0 c.in-Some.is g.row.SIZE c.requires.2 c.loop-i-test.true in
+    let among = cell_among R l.i c.next.ensures.0 c.in-Some.is g.row.SIZE c.requires.2 c.loop-i-test.true in
+    omega (arith, (cell_power few.0).0, among, l.invariant.1, room_some g.row.SIZE (row_count R) c.requires.0, c.requires.3)
 
 pub loop-i-preserved : goal.loop-i-preserved
 unfolding rows_below
-loop-i-preserved c =
-    let w = c.wide-v in
-    let w2 = c.wide-cut in
-    let w3 = c.wide-rail in
-    let iw = c.inputs_with-more in
-    let ow = c.outputs_with-over in
+loop-i-preserved g c =
     let l = c.loop-i in
-    let t = turn l.invariant.1 w.ensures.0 w2.ensures.0 w3.ensures iw.ensures ow.ensures in
-    let r = c.cell_rows-at in
-    let b = c.cell_below-formed in (
-      omega (arith, c.loop-i-test.true),
-      turn-begun t c.after-ins.ensures c.after-outs.ensures c.after-upper.ensures,
-      turn-rows t l.invariant.2 r.ensures.0,
-      omega (arith, l.invariant.3, r.ensures.1),
-      turn-bytes t c.args.size c.args.rows.now l.invariant.4 l.invariant.2 b.ensures,
-    )
+    let R = c.args.records.now in
+    let on = c.next.ensures in
+    elim c.match-next.branch [
+      | in-Some+else-not-rows_below w ↦
+          let few = cell_few R l.i on.0 w.in-Some.is g.row.SIZE c.requires.2 c.loop-i-test.true in
+          let counted = cell_counted R l.i on.0 w.in-Some.is in (
+            on.1,
+            omega (arith, w.at-is, (cell_power few.0).0, l.invariant.1, counted),
+            cell_bytes R l.i on.0 w.in-Some.is g.row.SIZE c.args.rows.now l.invariant.1
+                ∙ and_join l.invariant.2 (sym w.rows_below.ensures ∙ w.if-not-rows_below.false),
+          )
+      | in_default w ↦
+          let same = cells_same R l.i on.0 w.in_default.is in
+          (on.1, rw same (w.at-is ∙ l.invariant.1), rw same l.invariant.2)
+    ]
 
 pub returns : goal.returns
-returns c =
-    let a = c.args in
-    let R = a.records.now in
+returns g c =
+    let R = c.args.records.now in
     let e : c.loop-i.i ≡ record_count R = omega arith in
-    (rw e at c.loop-i.invariant.4) ∙ bytes-all a.size a.rows.now R
+    sym (rw e at c.loop-i.invariant.2) ∙ bytes-all g.row.SIZE c.args.rows.now R
