@@ -1,4 +1,5 @@
 -- Laws of `src/choice.rt`.
 pub mod BestWays
 pub mod ChoiceSteps
+pub mod WayLists
 pub mod WaysGiveChosen

@@ -1,26 +1,20 @@
 -- The parts of a compile as the code makes them, from the order and the widths at the heights below t.
 -- Assumes nothing.
-use Rattle.std.specs.Prelude.{ℕ, zero, suc, ◌+◌, ◌-◌, ◌*◌, ◌/◌, ◌%◌, ◌^◌, ◌≤◌, ◌<◌, Bool, cond, List, [], ◌∷◌, eqb, ltb, get_or, replicate}
-use Rattle.laws.specs.Tests.{any, count, sum}
+use Rattle.std.specs.Prelude.{ℕ, zero, suc, ◌+◌, ◌-◌, ◌*◌, ◌/◌, ◌%◌, ◌^◌, ◌≤◌, ◌<◌, Bool, cond, List, [], ◌∷◌, Result, Ok, Err, eqb, ltb, get_or, replicate}
+use Rattle.laws.specs.Tests.{any, sum}
 use Rattle.laws.specs.Lists.{puts, puts_at}
 use Rattle.laws.specs.Bits.{flag}
-use Rattle.sheet_spec.specs.Job.{is_input}
+use Rattle.refusals.specs.declared.Refusal.{Refusal}
+use Rattle.refusals.specs.declared.Refusal.TheVariants.{NoCutList}
 use Rattle.sheet_spec.specs.Limits.{largest_inputs, largest_outputs}
 use Rattle.stored_spec.specs.Cells.{usable_rows}
-use Rattle.stored_spec.specs.Rails.{rails}
+use Rattle.cutting.specs.Levels.{rails_of, inputs_of, levelled}
 use Rattle.cutting.specs.Ways.{list_cell, cuts_from, bits_from, next_from}
 use Rattle.cutting.specs.RowWalks.{walked_row}
 pub use Rattle.cutting.specs.declared.plan.Plan.{Plan}
 
--- the inputs at heights h to 1 of an order of t variables
-unfoldable pub inputs_in : ℕ → List ℕ → ℕ → ℕ
-inputs_in t order h = count h (λ k. is_input (get_or order (t - suc k) 0))
-
 -- ws are the widths at the heights below t; at t the width is 1
 module _ (t : ℕ) (ws : List ℕ) where
-  unfoldable pub rails_in : ℕ → ℕ
-  rails_in h = cond (eqb h t) 0 (rails (get_or ws h 0))
-
   unfoldable pub width_up : ℕ → ℕ
   width_up h = cond (ltb h t) (get_or ws h 0) 1
 
@@ -47,11 +41,16 @@ bytes21 n f = puts n f (replicate 21 0)
 
 unfoldable pub planned : ℕ → ℕ → ℕ → List ℕ → List ℕ → Plan
 planned t k l order ws =
-    let rs = bytes21 (t + 1) (rails_in t ws) in
-    let is = bytes21 (t + 1) (inputs_in t order) in
+    let levels = levelled t order ws in
+    let rs = rails_of levels in
+    let is = inputs_of levels in
     let cells = cuts_from k l rs is t - 1 in
     let cs = bytes21 (cells + 1) (cut_in (bytes21 (t + 1) (next_from k l rs is)) t) in
-    record { inputs = is; rails = rs; cuts = cs; cells = cells; bits = bits_from k l rs is t; rows = rows_to rs is cs cells }
+    record { levels = levels; cuts = cs; cells = cells; bits = bits_from k l rs is t; rows = rows_to rs is cs cells }
+
+-- a plan of no cells is none: there is no cut list
+unfoldable pub listed : Plan → Result Plan Refusal
+listed p = cond (eqb p.cells 0) (Err NoCutList) (Ok p)
 
 -- g is one of the first n cuts
 unfoldable pub is_cut : List ℕ → ℕ → ℕ → Bool

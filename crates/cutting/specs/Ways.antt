@@ -1,18 +1,36 @@
 -- The best way from each height down to 0, from those of the lower heights: fewest cells, then fewest bits, then the longest first cell.
 -- Assumes nothing.
-use Rattle.std.specs.Prelude.{ℕ, zero, suc, ◌+◌, ◌-◌, Bool, cond, ◌&&◌, ◌||◌, List, [], ◌∷◌, ◌++◌, eqb, ltb, get_or}
+use Rattle.std.specs.Prelude.{ℕ, zero, suc, ◌+◌, ◌-◌, Bool, cond, ◌&&◌, ◌||◌, List, [], ◌∷◌, ◌++◌, Option, Some, None, map, eqb, ltb, get_or, replicate}
+use Rattle.laws.specs.Lists.{puts}
 use Rattle.sheet_spec.specs.Job.{Job}
 use Rattle.stored_spec.specs.declared.Cell.{Cell}
 use Rattle.stored_spec.specs.Cells.{cell, fits, bits}
 use Rattle.cutting_spec.specs.Cuts.{cell_between}
-pub use Rattle.cutting.specs.declared.choice.Way.{Way}
+use Rattle.cutting.specs.declared.choice.Way as declared
 
 -- a way by its number of cuts, the bits of its cells and the next cut. No way has 0 cuts; the way from 0 has one, and no cell
+pub record Way : Type 0 where
+  pub cuts : ℕ
+  pub bits : ℕ
+  pub next : ℕ
+
 abbrev pub no_way : Way
 no_way = record { cuts = 0; bits = 0; next = 0 }
 
 abbrev pub bottom_way : Way
 bottom_way = record { cuts = 1; bits = 0; next = 0 }
+
+-- a way of the code
+abbrev pub way_given : Option declared.Way → Way
+way_given None = no_way
+way_given (Some w) = record { cuts = w.cells + 1; bits = w.bits; next = w.next }
+
+unfoldable pub ways_given : List (Option declared.Way) → List Way
+ways_given = map way_given
+
+-- the next cuts of ways
+unfoldable pub nexts_of : List (Option declared.Way) → List ℕ
+nexts_of ws = map (λ w. w.next) (ways_given ws)
 
 -- fewer cells than v, or as many and fewer bits; or v is none
 unfoldable pub fewer : Way → Way → Bool
@@ -71,3 +89,7 @@ bits_from k l rs is h = (list_way k l rs is h).bits
 
 abbrev pub next_from : ℕ → ℕ → List ℕ → List ℕ → ℕ → ℕ
 next_from k l rs is h = (list_way k l rs is h).next
+
+-- an array of 21 ways with those from the heights 0 to t at its front, else of none
+unfoldable pub ways_to : ℕ → ℕ → ℕ → List ℕ → List ℕ → List Way
+ways_to t k l rs is = puts (t + 1) (list_way k l rs is) (replicate 21 no_way)

@@ -22,8 +22,7 @@ use Rattle.reduction_spec.specs.declared.Node.{Node}
 use Rattle.reduction_spec.proofs.Promises.{length-node_words, words_height, words-low, words-high, nodes_fit}
 use Rattle.cutting_spec.specs.Choice.{refuse8}
 use Rattle.cutting_spec.specs.Compile.{Made, made, totals, CompiledAs, Compiled, refusal, acceptance, lend, reduce, compile_as, compile, compile_words}
-use Rattle.cutting.specs.Outcome.{Outcome, answered, outcome_of, outcome}
-use Rattle.cutting.specs.declared.Compilation.{Compilation}
+use Rattle.cutting.specs.Outcome.{Outcome, Answered, answered, outcome_of, outcome}
 use Rattle.node_table.specs.Nodes.{no_node, node_in, words_for, node_outcome_of, node_outcome}
 use Rattle.node_table.proofs.words.LentWords.{words_for_most, short-same, room-same}
 
@@ -123,14 +122,14 @@ module _ (nodes : List Node) where
     abbrev over : Compiled
     over = compile nodes records rows j s
 
-    module _ (r : Compilation) (zs rs os : List ℕ)
+    module _ (r : Answered) (zs rs os : List ℕ)
         (known : outcome_of r (take (words_for (length nodes)) zs) rs os ≡ outcome (take (words_for (length nodes)) words) records rows j s) where
       same_answer : r ≡ answered (compile nodes records rows j s).answer
       unfolding outcome
       same_answer = ap (λ (o : Outcome). o.answer) known ∙ ap answered both.answer
 
       count_same : r.nodes ≡ (answered over.answer).nodes
-      count_same = ap (λ (a : Compilation). a.nodes) same_answer
+      count_same = ap (λ (a : Answered). a.nodes) same_answer
 
       pub fill_room : (r.nodes * 3 ≤ 30720) × (r.nodes ≤ length nodes)
       fill_room = (omega (arith, count_same, both.few), omega (arith, count_same, both.room))
@@ -143,7 +142,7 @@ module _ (nodes : List Node) where
       pub table-outcome : (ns : List Node) → ns ≡ puts r.nodes (node_in zs) nodes → node_outcome_of r ns rs os ≡ node_outcome nodes records rows j s
       unfolding outcome
       table-outcome ns stored =
-          ap (λ (a : Compilation). node_outcome_of a ns rs os) same_answer
+          ap (λ (a : Answered). node_outcome_of a ns rs os) same_answer
           ∙ ap (λ (l : List Node). node_outcome_of (answered over.answer) l rs os) (stored ∙ table_same)
           ∙ ap (λ (l : List ℕ). node_outcome_of (answered over.answer) over.nodes l os) (ap (λ (o : Outcome). o.records) known ∙ both.records)
           ∙ ap (λ (l : List ℕ). node_outcome_of (answered over.answer) over.nodes over.records l) (ap (λ (o : Outcome). o.rows) known ∙ both.rows)

@@ -6,8 +6,7 @@ use Rattle.sheet_spec.specs.Job.{Job}
 use Rattle.reduction_spec.specs.Diagram.{node}
 use Rattle.reduction_spec.specs.declared.Node.{Node}
 use Rattle.cutting_spec.specs.Compile.{compile}
-use Rattle.cutting.specs.Outcome.{answered}
-use Rattle.cutting.specs.declared.Compilation.{Compilation}
+use Rattle.cutting.specs.Outcome.{Answered, answered}
 
 -- where there is none
 abbrev pub no_node : Node
@@ -21,15 +20,15 @@ node_in ws i = node (get_or ws (i * 3) 0) (get_or ws (i * 3 + 1) 0) (get_or ws (
 unfoldable pub words_for : ℕ → ℕ
 words_for lent = cond (ltb lent 10240) (lent * 3) 30720
 
--- the answer as its structure, and the node table and the two other memories after
+-- the answer as one structure, and the node table and the two other memories after
 pub record NodeOutcome : Type 0 where
-  pub answer : Compilation
+  pub answer : Answered
   pub nodes : List Node
   pub records : List ℕ
   pub rows : List ℕ
 
 -- an answer and three memories together
-abbrev pub node_outcome_of : Compilation → List Node → List ℕ → List ℕ → NodeOutcome
+abbrev pub node_outcome_of : Answered → List Node → List ℕ → List ℕ → NodeOutcome
 node_outcome_of a nodes records rows = record { answer = a; nodes = nodes; records = records; rows = rows }
 
 -- what the compiler gives over a node table of node records
@@ -44,11 +43,11 @@ empty_table = replicate most_nodes no_node
 
 -- what the compiler gives over it, the table itself left out
 pub record WholeOutcome : Type 0 where
-  pub answer : Compilation
+  pub answer : Answered
   pub records : List ℕ
   pub rows : List ℕ
 
-abbrev pub whole_outcome_of : Compilation → List ℕ → List ℕ → WholeOutcome
+abbrev pub whole_outcome_of : Answered → List ℕ → List ℕ → WholeOutcome
 whole_outcome_of a records rows = record { answer = a; records = records; rows = rows }
 
 abbrev pub without_nodes : NodeOutcome → WholeOutcome

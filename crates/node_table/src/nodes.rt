@@ -1,17 +1,9 @@
 // Nodes of a table of node records, one at a time.
-ghost use Rattle.std.specs.Prelude.{◌≡◌, ◌+◌, ◌*◌, ◌<◌, ◌≤◌, length, set};
+ghost use Rattle.std.specs.Prelude.{◌≡◌, ◌+◌, ◌*◌, ◌<◌, ◌≤◌, length};
 ghost use Rattle.laws.specs.Lists.{puts};
 ghost use Rattle.node_table.specs.Nodes.{node_in};
 
 use reduction_spec::Node;
-
-// Stores one node.
-fn store_node(nodes: &mut [Node], i: usize, node: Node)
-    requires { i < length nodes.old }
-    ensures { nodes.new ≡ set nodes.old i node }
-{
-    nodes[i] = node;
-}
 
 // Node i of words that have three a node.
 fn node_of(words: &[u16], i: usize) -> Node
@@ -30,9 +22,7 @@ pub fn fill(words: &[u16], nodes: &mut [Node], count: usize)
     requires { (count * 3 ≤ length words.now) × (count ≤ length nodes.old) }
     ensures { nodes.new ≡ puts count (node_in words.now) nodes.old }
 {
-    let mut i: usize = 0;
-    while i < count {
-        store_node(nodes, i, node_of(words, i));
-        i += 1;
+    for i in 0..count {
+        nodes[i] = node_of(words, i);
     }
 }

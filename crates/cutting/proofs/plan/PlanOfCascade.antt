@@ -30,12 +30,14 @@ use Rattle.cutting_spec.specs.Choice.{refuse8}
 use Rattle.cutting.specs.Ways.{Way, falling, job_way, list_cell, list_way, next_from}
 use Rattle.cutting_spec.specs.Compile.{made, widths_of}
 use Rattle.cutting.specs.RowWalks.{first_at}
-use Rattle.cutting.specs.Plan.{Plan, inputs_in, rails_in, width_up, first_in, cut_in, bytes21, planned}
+use Rattle.cutting.specs.Levels.{rails_of, inputs_of, inputs_in, rails_in}
+use Rattle.cutting.specs.Plan.{Plan, width_up, first_in, cut_in, bytes21, planned}
 use Rattle.cutting_spec.proofs.RowLimit.{sheet_slim, sheet-narrow}
 use Rattle.cutting_spec.proofs.RailCounts.{width_at}
 use Rattle.cutting_spec.proofs.StoredCuts.{cuts-some}
 use Rattle.cutting_spec.proofs.StoredWell.{job_limits}
 use Rattle.cutting_spec.proofs.MadeCascade.{cells_count, made-cuts}
+use Rattle.cutting.proofs.levels.LevelLists.{rails-levelled, inputs-levelled}
 use Rattle.cutting.proofs.choice.BestWays.{way_small}
 use Rattle.cutting.proofs.choice.WaysGiveChosen.{chosen-cells, chosen-bits, refuse8-cells, chosen-next, way_list}
 
@@ -144,22 +146,26 @@ module _ (j : Job) (s : List ℕ) (e : sheet_refusal j s ≡ 0) (narrow : refuse
       (sum_ext (λ i. width_up (t j) held_widths (t j - i)) (λ i. width_in ls (t j - i)) (t j - h) (λ i b. up_width (t j - i) (omega arith)))
 
   -- the numbers at each height
-  pub plan_rails : (h : ℕ) → h ≤ t j → get_or plan.rails h 0 ≡ rails_at j (made j (table j s)).widths h
+  pub plan_rails : (h : ℕ) → h ≤ t j → get_or (rails_of plan.levels) h 0 ≡ rails_at j (made j (table j s)).widths h
   unfolding planned bytes21 rails_in rails_at
   plan_rails h l =
       let few = few-variables in
-      stored 21 (t j + 1) (rails_in (t j) held_widths) h (omega arith) (omega arith)
+      ap (λ (x : List ℕ). get_or x h 0) (rails-levelled (t j) j.order held_widths)
+      ∙ stored 21 (t j + 1) (rails_in (t j) held_widths) h (omega arith) (omega arith)
       ∙ by_equal h (t j)
       (λ top. let y = eq-eqb h (t j) top in cond_yes (eqb h (t j)) 0 (rails (get_or held_widths h 0)) y ∙ sym (cond_yes (eqb h (t j)) 0 (rails (get_or ws h 0)) y))
       (λ below. ap (λ (w : ℕ). cond (eqb h (t j)) 0 (rails w)) (widths-held h (omega arith)))
 
-  pub plan_inputs : (h : ℕ) → h ≤ t j → get_or plan.inputs h 0 ≡ ins j h
+  pub plan_inputs : (h : ℕ) → h ≤ t j → get_or (inputs_of plan.levels) h 0 ≡ ins j h
   unfolding planned bytes21 inputs_in ins
-  plan_inputs h l = let few = few-variables in stored 21 (t j + 1) (inputs_in (t j) j.order) h (omega arith) (omega arith)
+  plan_inputs h l =
+      let few = few-variables in
+      ap (λ (x : List ℕ). get_or x h 0) (inputs-levelled (t j) j.order held_widths)
+      ∙ stored 21 (t j + 1) (inputs_in (t j) j.order) h (omega arith) (omega arith)
 
   -- the ways by these numbers are the job's
-  way_planned : (h : ℕ) → h ≤ t j → list_way j.K j.L plan.rails plan.inputs h ≡ job_way j ws h
-  way_planned = way_list j ws plan.rails plan.inputs plan_rails plan_inputs
+  way_planned : (h : ℕ) → h ≤ t j → list_way j.K j.L (rails_of plan.levels) (inputs_of plan.levels) h ≡ job_way j ws h
+  way_planned = way_list j ws (rails_of plan.levels) (inputs_of plan.levels) plan_rails plan_inputs
 
   narrow-enough : (h : ℕ) → h ≤ t j → get_or ws h 0 ≤ 2 ^ (j.n - ins j h)
   unfolding made
@@ -198,7 +204,7 @@ module _ (j : Job) (s : List ℕ) (e : sheet_refusal j s ≡ 0) (narrow : refuse
   plan_few =
       let (some, k≤, l≤) = job_limits j s e in
       let few = few-variables in
-      omega (arith, (way_small (list_cell plan.rails plan.inputs) j.K j.L k≤ l≤ (t j)).cuts)
+      omega (arith, (way_small (list_cell (rails_of plan.levels) (inputs_of plan.levels)) j.K j.L k≤ l≤ (t j)).cuts)
 
   -- the cuts, where there are any
   module _ (kept : refuse8 j (made j (table j s)).widths ≡ false) where
@@ -209,13 +215,13 @@ module _ (j : Job) (s : List ℕ) (e : sheet_refusal j s ≡ 0) (narrow : refuse
         omega (arith, plan_cells, cells_count j ws l, cuts-some (made-cuts j s e kept))
 
     abbrev nx : List ℕ
-    nx = bytes21 (t j + 1) (next_from j.K j.L plan.rails plan.inputs)
+    nx = bytes21 (t j + 1) (next_from j.K j.L (rails_of plan.levels) (inputs_of plan.levels))
 
     next-planned : (h : ℕ) → h ≤ t j → get_or nx h 0 ≡ (job_way j ws h).next
     unfolding bytes21
     next-planned h l =
         let few = few-variables in
-        stored 21 (t j + 1) (next_from j.K j.L plan.rails plan.inputs) h (omega arith) (omega arith)
+        stored 21 (t j + 1) (next_from j.K j.L (rails_of plan.levels) (inputs_of plan.levels)) h (omega arith) (omega arith)
         ∙ ap (λ (w : Way). w.next) (way_planned h l)
 
     cuts_follow : (made j (table j s)).cuts ≡ falling (λ h. get_or nx h 0) (t j) (t j)

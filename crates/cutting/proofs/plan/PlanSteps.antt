@@ -1,10 +1,8 @@
 -- Laws of a plan: inputs, rails, cuts and rows one step after another, and how large they get.
 -- Assumes nothing.
 use mathlib.Core.Path.{◌≡◌, refl, sym, ◌∙◌, ap, ap₂}
-use mathlib.Core.Bool.{Bool, cond}
 use mathlib.Core.List.{List}
 use Prim.Native.Nat.{ℕ, zero, suc, ◌+◌, ◌-◌, ◌*◌, ◌^◌, ◌<◌, ◌≤◌}
-use native.Mathlib.Nat.{pow-suc}
 use native.Mathlib.Numerals.{add-one}
 use native.Mathlib.Omega.{arith}
 use lib.Dec.{eqb}
@@ -13,34 +11,18 @@ use lib.Pow.{pow_mono}
 use borrow.Author.Tests.{eq-eqb, ne_eqb}
 use Rattle.laws.specs.Lists.{puts}
 use Rattle.laws.proofs.Cases.{by_less, cond_yes, cond_no}
-use Rattle.laws.proofs.Counts.{count_next, count-max, sum-next}
+use Rattle.laws.proofs.Counts.{sum-next}
 use Rattle.laws.proofs.Puts.{stored, get_or_unput}
-use Rattle.sheet_spec.specs.Job.{is_input}
-use Rattle.sheet_spec.specs.Limits.{largest_inputs, largest_outputs}
+use Rattle.std.specs.Prelude.{Ok, Err}
+use Rattle.refusals.specs.declared.Refusal.TheVariants.{NoCutList}
 use Rattle.stored_spec.specs.declared.Cell.{Cell}
 use Rattle.stored_spec.specs.Cells.{usable_rows}
 use Rattle.stored_spec.specs.Rails.{rails}
-use Rattle.cutting.specs.Ways.{list_cell, list_way, cuts_from, bits_from, next_from}
-use Rattle.cutting.specs.Plan.{inputs_in, rails_in, cut_in, rows_of, rows_to, bytes21, planned}
+use Rattle.cutting.specs.Levels.{Level, rails_of, inputs_of, levelled}
+use Rattle.cutting.specs.Ways.{Way, no_way, list_cell, list_way, next_from}
+use Rattle.cutting.specs.Plan.{cut_in, rows_of, rows_to, bytes21, Plan, planned, listed}
 use Rattle.stored_spec.proofs.Promises.{rows-small, rails-enough, rails-least}
 use Rattle.cutting.proofs.choice.BestWays.{way_falls}
-use Rattle.cutting.proofs.choice.ChoiceSteps.{ways-small}
-
-module _ (t : ℕ) (order : List ℕ) where
-  pub inputs-none : inputs_in t order 0 ≡ 0
-  unfolding inputs_in
-  inputs-none = refl
-
-  pub inputs-step : (h n : ℕ) → n ≡ inputs_in t order h → cond (is_input (get_or order (t - 1 - h) 0)) (n + 1) n ≡ inputs_in t order (h + 1)
-  unfolding inputs_in
-  inputs-step h n e =
-      let f : ℕ → Bool = λ k. is_input (get_or order (t - suc k) 0) in
-      let i : t - 1 - h ≡ t - suc h = omega arith in
-      ap₂ (λ (i m : ℕ). cond (is_input (get_or order i 0)) (m + 1) m) i e ∙ sym (count_next f h)
-
-  pub inputs_most : (h : ℕ) → inputs_in t order h ≤ h
-  unfolding inputs_in
-  inputs_most h = count-max (λ k. is_input (get_or order (t - suc k) 0)) h
 
 -- r rails are too few; the rails of a width; one rail more
 pub rails_more : (w r : ℕ) → 2 ^ r < w → r < rails w
@@ -50,18 +32,6 @@ rails_more w r l =
 
 pub rails-few : (w : ℕ) → w ≤ 65536 → rails w ≤ 16
 rails-few w l = rails-least w 16 l
-
-pub twice_power : (r size : ℕ) → size ≡ 2 ^ r → size * 2 ≡ 2 ^ (r + 1)
-twice_power r size e = ap (λ (x : ℕ). x * 2) e ∙ sym (pow-suc 2 r) ∙ ap (λ (x : ℕ). 2 ^ x) (sym (add-one r))
-
-module _ (t : ℕ) (ws : List ℕ) where
-  pub rails_last : 0 ≡ rails_in t ws t
-  unfolding rails_in
-  rails_last = sym (cond_yes (eqb t t) 0 (rails (get_or ws t 0)) (eq-eqb t t refl))
-
-  pub rails_below : (h : ℕ) → h < t → rails_in t ws h ≡ rails (get_or ws h 0)
-  unfolding rails_in
-  rails_below h l = cond_no (eqb h t) 0 (rails (get_or ws h 0)) (ne_eqb h t (λ e. absurd (omega arith)))
 
 module _ (nx : List ℕ) (t : ℕ) where
   pub cut-first : t ≡ cut_in nx t 0
@@ -103,9 +73,6 @@ low-bytes n m f s e l low i h =
 
 -- the chosen cuts, by the rails and inputs at each height
 module _ (t k l : ℕ) (rs is : List ℕ) (high : t ≤ 20) where
-  pub cells-few : k ≤ largest_inputs → l ≤ largest_outputs → (n cells : ℕ) → n ≡ cells → cells ≡ cuts_from k l rs is t - 1 → n ≤ 20
-  cells-few p q n cells e f = let s = ways-small k l rs is p q t high in omega (arith, e, f, s.0)
-
   module _ (nx : List ℕ) (en : nx ≡ puts (t + 1) (next_from k l rs is) (replicate 21 0)) where
     pub next_low : (h : ℕ) → h ≤ 20 → get_or nx h 0 ≤ 20
     unfolding list_way
@@ -117,10 +84,25 @@ module _ (t k l : ℕ) (rs is : List ℕ) (high : t ≤ 20) where
     cuts-low n cs few e = low-bytes (n + 1) 20 (cut_in nx t) cs e (omega arith) (λ i p. cut_low nx t next_low high i)
 
 -- a plan by its parts; n is the number of its cells
-pub plan_is : (t k l : ℕ) (order ws is rs nx cs : List ℕ) (n cells bits rows : ℕ)
-    → is ≡ puts (t + 1) (inputs_in t order) (replicate 21 0) → rs ≡ puts (t + 1) (rails_in t ws) (replicate 21 0)
-    → cells ≡ cuts_from k l rs is t - 1 → bits ≡ bits_from k l rs is t → nx ≡ puts (t + 1) (next_from k l rs is) (replicate 21 0)
-    → n ≡ cells → cs ≡ puts (n + 1) (cut_in nx t) (replicate 21 0) → rows ≡ rows_to rs is cs n
-    → record { inputs = is; rails = rs; cuts = cs; cells = cells; bits = bits; rows = rows } ≡ planned t k l order ws
-unfolding planned bytes21
-plan_is t k l order ws is rs nx cs n cells bits rows ei er ec eb en e es eo = rw (eo, es, e, eb, ec, en, ei, er) refl
+pub plan_is : (t k l : ℕ) (order ws nx cs : List ℕ) (ls : List Level) (w : Way) (n cells rows : ℕ)
+    → ls ≡ levelled t order ws → w ≡ list_way k l (rails_of ls) (inputs_of ls) t → cells + 1 ≡ w.cuts
+    → nx ≡ bytes21 (t + 1) (next_from k l (rails_of ls) (inputs_of ls))
+    → n ≡ cells → cs ≡ bytes21 (n + 1) (cut_in nx t) → rows ≡ rows_to (rails_of ls) (inputs_of ls) cs n
+    → record { levels = ls; cuts = cs; cells = cells; bits = w.bits; rows = rows } ≡ planned t k l order ws
+unfolding planned
+plan_is t k l order ws nx cs ls w n cells rows el ew ec en e es eo =
+    let c : cells ≡ w.cuts - 1 = omega arith in
+    rw (eo, es, e, c, en, ew, el) refl
+
+-- a plan of no cells; one that has some
+pub unlisted : (t k l : ℕ) (order ws : List ℕ) (ls : List Level) → ls ≡ levelled t order ws
+    → no_way ≡ list_way k l (rails_of ls) (inputs_of ls) t → Err NoCutList ≡ listed (planned t k l order ws)
+unfolding planned listed
+unlisted t k l order ws ls el ew =
+    let none : (planned t k l order ws).cells ≡ 0 = ap (λ (x : List Level). (list_way k l (rails_of x) (inputs_of x) t).cuts - 1) (sym el) ∙ ap (λ (w : Way). w.cuts - 1) (sym ew) in
+    sym (cond_yes (eqb (planned t k l order ws).cells 0) (Err NoCutList) (Ok (planned t k l order ws)) (eq-eqb _ 0 none))
+
+pub listed_is : (q p : Plan) → q ≡ p → (q.cells ≡ 0 → ⊥) → Ok q ≡ listed p
+unfolding listed
+listed_is q p e some =
+    rw e (sym (cond_no (eqb p.cells 0) (Err NoCutList) (Ok p) (ne_eqb p.cells 0 (λ z. some (ap (λ (x : Plan). x.cells) e ∙ z)))))

@@ -9,12 +9,11 @@ use lib.Dec.{ltb}
 use lib.ListN.{length, take, drop}
 use lib.Seq.{take_at}
 use Rattle.laws.proofs.Cases.{by_less, cond_yes, cond_no}
-use Rattle.cutting.specs.Outcome.{Outcome, outcome_of}
-use Rattle.cutting.specs.declared.Compilation.{Compilation}
+use Rattle.cutting.specs.Outcome.{Outcome, Answered, outcome_of}
 use Rattle.node_table.specs.Nodes.{words_for}
 
 -- what is made in the front of the words
-pub front_outcome : (F : List ℕ → Outcome) (r : Compilation) (w n : ℕ) (ys words records rows : List ℕ) → n ≡ w → length ys ≡ n
+pub front_outcome : (F : List ℕ → Outcome) (r : Answered) (w n : ℕ) (ys words records rows : List ℕ) → n ≡ w → length ys ≡ n
     → outcome_of r ys records rows ≡ F (take n words) → outcome_of r (take w (ys ++ drop n words)) records rows ≡ F (take w words)
 front_outcome F r w n ys words records rows e long known =
     ap (λ (l : List ℕ). outcome_of r l records rows) (take_at ys (drop n words) w (long ∙ e)) ∙ known ∙ ap (λ (k : ℕ). F (take k words)) e

@@ -14,50 +14,29 @@ pub last_row-requires : goal.last_row-requires
 last_row-requires t c =
     let a = c.args in
     let p = c.requires in
-    (p.0, p.1, p.2, omega (arith, single_row a.words.now a.order.now a.bottom a.lower a.rails a.k a.node a.o a.count a.x c.if-count-eq0.true, p.6 0 (pow_pos a.count)))
-
-pub bounds-rows-x : goal.bounds-rows-x
-bounds-rows-x t c =
-    let a = c.args in
-    let p = c.requires in
-    omega (arith, p.5, pow_pos a.count)
+    (p.0, p.1, p.2, omega (arith, single_row a.span.now.diagram.words.now a.span.now.diagram.order.now a.span.now.bottom a.span.now.lower a.span.now.rails a.k a.node a.o a.count a.x c.if-count-eq0.true, p.6 0 (pow_pos a.count)))
 
 pub returns-then-count-eq0 : goal.returns-then-count-eq0
 returns-then-count-eq0 t c =
     let a = c.args in
     let p = c.requires in
-    single_block a.words.now a.order.now a.bottom a.lower a.rails a.k a.node a.o a.count a.x c.last_row.result a.rows.now c.if-count-eq0.true c.last_row.ensures
+    single_block a.span.now.diagram.words.now a.span.now.diagram.order.now a.span.now.bottom a.span.now.lower a.span.now.rails a.k a.node a.o a.count a.x c.last_row.result a.rows.now c.if-count-eq0.true c.last_row.ensures
 
 pub row_from-requires : goal.row_from-requires
 row_from-requires t c =
     let a = c.args in
     let p = c.requires in
-    (p.2, omega (arith, ended-row a.words.now a.order.now a.bottom a.lower a.rails a.k a.node a.o a.count (a.x + 0) c.if-k-node.true, p.6 0 (pow_pos a.count)))
-
-pub write_same-requires : goal.write_same-requires
-write_same-requires t c =
-    let a = c.args in
-    let p = c.requires in
-    omega (arith, c.power.ensures.0, p.5)
+    (p.2, omega (arith, ended-row a.span.now.diagram.words.now a.span.now.diagram.order.now a.span.now.bottom a.span.now.lower a.span.now.rails a.k a.node a.o a.count (a.x + 0) c.if-k-node.true, p.6 0 (pow_pos a.count)))
 
 pub returns-then-k-node : goal.returns-then-k-node
 returns-then-k-node t c =
     let a = c.args in
     let p = c.requires in
-    ended-block a.words.now a.order.now a.bottom a.lower a.rails a.k a.node a.o a.count a.x c.row_from.result c.power.result a.rows.now _ c.if-k-node.true
+    ended-block a.span.now.diagram.words.now a.span.now.diagram.order.now a.span.now.bottom a.span.now.lower a.span.now.rails a.k a.node a.o a.count a.x c.row_from.result c.power.result a.rows.now _ c.if-k-node.true
     c.row_from.ensures c.power.ensures.0 c.write_same.ensures
-
-pub overflow_sub-below : goal.overflow_sub-below
-overflow_sub-below t c = let a = c.args in omega (arith, (going_on a.k a.node c.if-k-node.false).0)
-
-pub overflow_sub-count : goal.overflow_sub-count
-overflow_sub-count t c = omega (arith, c.if-count-eq0.false)
 
 pub power-half-requires : goal.power-half-requires
 power-half-requires t c = omega (arith, c.requires.3)
-
-pub overflow_sub-count-then-is_input_at : goal.overflow_sub-count-then-is_input_at
-overflow_sub-count-then-is_input_at t c = omega (arith, c.if-count-eq0.false)
 
 pub fill_block-requires : goal.fill_block-requires
 fill_block-requires t c =
@@ -73,22 +52,11 @@ fill_block-requires t c =
         omega (arith, p.3),
         whole-low a.x a.count some p.4,
         omega (arith, p.5, half_twice a.x a.count some),
-        first_small a.words.now a.order.now a.bottom a.lower a.rails a.k a.node a.o a.count g.0 g.1
+        first_small a.span.now.diagram.words.now a.span.now.diagram.order.now a.span.now.bottom a.span.now.lower a.span.now.rails a.k a.node a.o a.count g.0 g.1
             c.is_input_at.result c.is_input_at.ensures c.low_of-low.result c.high_of-high.result
             c.low_of-low.ensures c.high_of-high.ensures a.x p.6 c.power-half.result c.if-is_input_at.true some p.4 c.power-half.ensures.0,
       ),
     )
-
-pub overflow_sub-count-then-is_input_at-2 : goal.overflow_sub-count-then-is_input_at-2
-overflow_sub-count-then-is_input_at-2 t c = omega (arith, c.if-count-eq0.false)
-
-pub overflow_add-x : goal.overflow_add-x
-overflow_add-x t c =
-    let a = c.args in
-    let p = c.requires in
-    let g = going_on a.k a.node c.if-k-node.false in
-    let some = c.if-count-eq0.false in
-    omega (arith, p.5, half_twice a.x a.count some, c.power-half.ensures.0)
 
 pub fill_block-requires-then-is_input_at : goal.fill_block-requires-then-is_input_at
 fill_block-requires-then-is_input_at t c =
@@ -110,9 +78,9 @@ fill_block-requires-then-is_input_at t c =
           half_twice a.x a.count some,
           h.ensures.0,
           ap length c.fill_block.ensures
-              ∙ length-puts_at (rows_from a.words.now a.order.now a.bottom a.lower a.rails (a.k - 1) c.low_of-low.result a.o (a.count - 1) a.x) a.x (2 ^ (a.count - 1)) a.rows.now,
+              ∙ length-puts_at (rows_from a.span.now.diagram.words.now a.span.now.diagram.order.now a.span.now.bottom a.span.now.lower a.span.now.rails (a.k - 1) c.low_of-low.result a.o (a.count - 1) a.x) a.x (2 ^ (a.count - 1)) a.rows.now,
         ),
-        second-small a.words.now a.order.now a.bottom a.lower a.rails a.k a.node a.o a.count g.0 g.1
+        second-small a.span.now.diagram.words.now a.span.now.diagram.order.now a.span.now.bottom a.span.now.lower a.span.now.rails a.k a.node a.o a.count g.0 g.1
             c.is_input_at.result c.is_input_at.ensures c.low_of-low.result c.high_of-high.result
             c.low_of-low.ensures c.high_of-high.ensures a.x p.6 h.result c.if-is_input_at.true some p.4 h.ensures.0,
       ),
@@ -125,7 +93,7 @@ returns-then-is_input_at t c =
     let g = going_on a.k a.node c.if-k-node.false in
     let some = c.if-count-eq0.false in
     let h = c.power-half in
-    split-block a.words.now a.order.now a.bottom a.lower a.rails a.k a.node a.o a.count g.0 g.1
+    split-block a.span.now.diagram.words.now a.span.now.diagram.order.now a.span.now.bottom a.span.now.lower a.span.now.rails a.k a.node a.o a.count g.0 g.1
     c.is_input_at.result c.is_input_at.ensures c.low_of-low.result c.high_of-high.result
     c.low_of-low.ensures c.high_of-high.ensures a.x p.6 h.result c.if-is_input_at.true some p.4 h.ensures.0 a.rows.now _ _ c.fill_block.ensures
     c.fill_block-then-is_input_at.ensures
@@ -153,7 +121,7 @@ fill_block-requires-2 t c =
         p.3,
         p.4,
         p.5,
-        led_small a.words.now a.order.now a.bottom a.lower a.rails a.k a.node a.o a.count g.0 g.1
+        led_small a.span.now.diagram.words.now a.span.now.diagram.order.now a.span.now.bottom a.span.now.lower a.span.now.rails a.k a.node a.o a.count g.0 g.1
             c.is_input_at.result c.is_input_at.ensures c.low_of-low.result c.high_of-high.result
             c.low_of-low.ensures c.high_of-high.ensures a.x p.6 n.result w.result c.if-is_input_at.false n.ensures w.ensures,
       ),
@@ -166,6 +134,6 @@ returns t c =
     let g = going_on a.k a.node c.if-k-node.false in
     let w = c.with_output-met in
     let n = c.allowed-next in
-    led_block a.words.now a.order.now a.bottom a.lower a.rails a.k a.node a.o a.count g.0 g.1
+    led_block a.span.now.diagram.words.now a.span.now.diagram.order.now a.span.now.bottom a.span.now.lower a.span.now.rails a.k a.node a.o a.count g.0 g.1
     c.is_input_at.result c.is_input_at.ensures c.low_of-low.result c.high_of-high.result
     c.low_of-low.ensures c.high_of-high.ensures a.x p.6 n.result w.result c.if-is_input_at.false n.ensures w.ensures a.rows.now _ c.fill_block-2.ensures

@@ -9,6 +9,6 @@ use Rattle.cutting.proofs.cell_rows.is_input_at.Goals as goal
 pub returns : goal.returns
 returns c =
     let a = c.args in
-    let l = a.order.now in
+    let l = a.span.now.diagram.order.now in
     c.is_input_at.ensures
-    ∙ ap (λ (h : ℕ). is_input (get_or l (length l - suc h) 0)) (ap₂ ◌+◌ c.wide.ensures.0 c.wide-2.ensures.0)
+    ∙ ap (λ (h : ℕ). is_input (get_or l (length l - suc h) 0)) (ap₂ ◌+◌ c.from.ensures c.from-2.ensures)

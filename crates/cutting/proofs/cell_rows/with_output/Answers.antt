@@ -1,13 +1,10 @@
 -- `cutting::cell_rows::with_output` meets its contract.
 -- Assumes nothing.
-use mathlib.Core.Path.{sym}
-use borrow.Author.Tests.{eq-eqb, ne_eqb}
+use mathlib.Core.Path.{◌∙◌, ap}
+use Prim.Native.Nat.{ℕ, ◌+◌, ◌*◌}
 use lib.Dec.{eqb}
-use Rattle.laws.proofs.Cases.{cond_yes, cond_no}
+use Rattle.cutting.proofs.levels.LevelLists.{flag-more}
 use Rattle.cutting.proofs.cell_rows.with_output.Goals as goal
 
-pub returns-then-low-eq0 : goal.returns-then-low-eq0
-returns-then-low-eq0 c = let l = c.args.low in sym (cond_yes (eqb l 0) _ _ (eq-eqb l 0 c.if-low-eq0.true))
-
 pub returns : goal.returns
-returns c = let l = c.args.low in sym (cond_no (eqb l 0) _ _ (ne_eqb l 0 c.if-low-eq0.false))
+returns c = let a = c.args in ap (λ (n : ℕ). a.o * 2 + n) c.from.ensures ∙ flag-more (eqb a.low 0) (a.o * 2)

@@ -20,7 +20,7 @@ fill_block-requires c =
       p.2,
       zero-mod _,
       omega (arith, p.1, p.3, mid_len a.at (length a.rows.now) a.rows.now (omega arith)),
-      node-small a.words.now a.order.now a.top a.bottom a.lower a.rails a.count a.node h.result h.ensures.0
+      node-small a.span.now.diagram.words.now a.span.now.diagram.order.now a.span.now.top a.span.now.bottom a.span.now.lower a.span.now.rails a.span.now.count a.node h.result h.ensures.0
           a.size p.1 p.4,
     )
 
@@ -28,5 +28,5 @@ pub returns : goal.returns
 returns c =
     let h = c.heights in
     let a = c.args in
-    node_block a.words.now a.order.now a.top a.bottom a.lower a.rails a.count a.node h.result h.ensures.0
+    node_block a.span.now.diagram.words.now a.span.now.diagram.order.now a.span.now.top a.span.now.bottom a.span.now.lower a.span.now.rails a.span.now.count a.node h.result h.ensures.0
     a.size c.requires.1 a.at a.rows.now _ c.requires.3 c.fill_block.ensures

@@ -1,13 +1,12 @@
--- The loops of `cutting::cells::write_cells`.
+-- The loop of `cutting::cells::write_cells`.
 -- Assumes nothing.
 use mathlib.Core.Path.{◌≡◌}
-use Prim.Native.Nat.{◌≤◌, ◌-◌}
-use Rattle.cutting.specs.Plan.{rows_to, rows_stored}
+use Rattle.cutting.specs.Levels.{rails_of, inputs_of}
+use Rattle.cutting.specs.Plan.{rows_to}
+use Rattle.cutting.specs.Spans.{cells_stored}
 use Rattle.cutting.proofs.cells.write_cells.Given as goal
 
 abbrev pub invariant-loop-i : goal.invariant-loop-i
 invariant-loop-i l =
-    (l.i ≤ l.cells) × (l.at ≡ rows_to l.rails l.inputs l.cuts l.i) × (l.rows ≡ rows_stored l.t l.words l.order l.widths l.rails l.inputs l.cuts l.i l.initial.rows)
-
-abbrev pub decreases-loop-i : goal.decreases-loop-i
-decreases-loop-i l = l.cells - l.i
+    (l.at ≡ rows_to (rails_of l.plan.levels) (inputs_of l.plan.levels) l.plan.cuts l.i)
+    × (l.rows ≡ cells_stored l.diagram l.plan.levels l.plan.cuts l.i l.initial.rows)

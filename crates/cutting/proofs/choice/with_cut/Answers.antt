@@ -1,32 +1,35 @@
 -- `cutting::choice::with_cut` meets its contract.
 -- Assumes nothing.
-use mathlib.Core.Path.{sym, ◌∙◌}
+use mathlib.Core.Path.{refl, sym, ap}
 use native.Mathlib.Omega.{arith}
+use Rattle.std.specs.Prelude.{Option, Some}
 use Rattle.stored_spec.proofs.Promises.{bits_small}
+use Rattle.cutting.specs.declared.choice.Way as declared
+use Rattle.cutting.specs.Ways.{way_given}
 use Rattle.cutting.proofs.choice.ChoiceSteps.{stay_large, stay_none, go_through}
 use Rattle.cutting.proofs.choice.with_cut.Goals as goal
 
-pub returns-then-cuts-eq0 : goal.returns-then-cuts-eq0
-returns-then-cuts-eq0 c =
+pub returns-then-not-fits : goal.returns-then-not-fits
+returns-then-not-fits c =
     let a = c.args in
-    let fit = sym c.fits.ensures ∙ c.if-fits.true in
-    stay_none a.k a.l a.c a.g a.w a.v fit c.if-cuts-eq0.true
+    stay_large a.k a.l a.c a.g (way_given a.w) (way_given a.v) (sym c.if-not-fits.ensures)
 
-pub overflow_cast-bits : goal.overflow_cast-bits
-overflow_cast-bits c = omega (arith, c.bits-bits.ensures, bits_small c.args.c)
-
-pub overflow_add-u-then-fits : goal.overflow_add-u-then-fits
-overflow_add-u-then-fits c =
-    omega (arith, c.bits-bits.ensures, bits_small c.args.c, c.requires)
-
-pub returns-then-fits : goal.returns-then-fits
-returns-then-fits c =
+pub returns-in_default : goal.returns-in_default
+returns-in_default c =
     let a = c.args in
-    let fit = sym c.fits.ensures ∙ c.if-fits.true in
-    go_through a.k a.l a.c a.g a.w a.v fit c.requires.0 c.requires.1 c.if-cuts-eq0.false
-    c.bits-bits.result c.better_of.result c.bits-bits.ensures c.better_of.ensures
+    stay_none a.k a.l a.c a.g (way_given a.w) (way_given a.v) (sym c.if-not-fits.ensures) (rw c.in_default.is refl)
+
+pub overflow_cast-u : goal.overflow_cast-u
+overflow_cast-u c = omega (arith, c.bits.ensures, bits_small c.args.c)
+
+pub overflow_add-u-2 : goal.overflow_add-u-2
+overflow_add-u-2 c =
+    omega (arith, c.bits.ensures, bits_small c.args.c, c.requires.3, ap (λ (x : Option declared.Way). (way_given x).bits) c.in-Some.is)
 
 pub returns : goal.returns
 returns c =
     let a = c.args in
-    stay_large a.k a.l a.c a.g a.w a.v (sym c.fits.ensures ∙ c.if-fits.false)
+    let w = way_given (Some c.in-Some.w) in
+    rw c.in-Some.is
+    (go_through a.k a.l a.c a.g w (way_given a.v) (sym c.if-not-fits.ensures) c.requires.0 c.requires.1 (λ z. omega arith)
+    c.bits.result (way_given (Some c.better_of.result)) c.bits.ensures c.better_of.ensures)

@@ -1,13 +1,10 @@
 -- `store_rows` stores rows as pairs of bytes.
 -- Assumes nothing.
 use mathlib.Core.Path.{◌≡◌}
-use Prim.Native.Nat.{◌*◌, ◌-◌, ◌≤◌}
+use Prim.Native.Nat.{◌*◌}
 use Rattle.laws.specs.Lists.{puts}
 use Rattle.cutting.specs.Plan.{row_byte}
 use Rattle.cutting.proofs.row_bytes.store_rows.Given as goal
 
 abbrev pub invariant-loop-i : goal.invariant-loop-i
-invariant-loop-i l = (l.i ≤ l.count) × (l.to ≡ puts (l.i * 2) (row_byte l.from) l.initial.to)
-
-abbrev pub decreases-loop-i : goal.decreases-loop-i
-decreases-loop-i l = l.count - l.i
+invariant-loop-i l = l.to ≡ puts (l.i * 2) (row_byte l.from) l.initial.to

@@ -8,14 +8,14 @@ use Rattle.node_table.specs.Nodes.{node_in}
 use Rattle.node_table.proofs.nodes.fill.Goals as goal
 
 pub loop-i-init : goal.loop-i-init
-loop-i-init c = (omega arith, sym (puts_none (node_in c.args.words.now) _))
+loop-i-init c = sym (puts_none (node_in c.args.words.now) _)
 
 pub loop-i-preserved : goal.loop-i-preserved
 loop-i-preserved c =
-    (omega arith, c.store_node.ensures ∙ puts-next (node_in c.args.words.now) c.loop-i.i _ _ _ c.loop-i.invariant.1 c.node_of.ensures)
+    puts-next (node_in c.args.words.now) c.loop-i.i _ _ _ c.loop-i.invariant c.node_of.ensures
 
 pub returns : goal.returns
 returns c =
     let s = c.loop-i in
     let e : s.i ≡ c.args.count = omega arith in
-    s.invariant.1 ∙ ap (λ k. puts k (node_in c.args.words.now) c.args.nodes.now) e
+    s.invariant ∙ ap (λ k. puts k (node_in c.args.words.now) c.args.nodes.now) e

@@ -1,3 +1,0 @@
--- Laws of `src/compiler.rt`.
-pub mod Assembled
-pub mod PlanRefusals

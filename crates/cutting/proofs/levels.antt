@@ -1,0 +1,2 @@
+-- Laws of `src/levels.rt`.
+pub mod LevelLists
