@@ -1,3 +1,2 @@
 -- Laws of `src/formed.rt`.
-pub mod CountedCells
 pub mod HeldBlocks

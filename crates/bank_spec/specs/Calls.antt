@@ -3,6 +3,7 @@
 use Rattle.std.specs.Prelude.{ℕ, ◌+◌, ◌*◌, ◌/◌, ◌%◌, Bool, true, false, cond, not, ◌&&◌, ◌||◌, List, eqb, leb, ltb, length, get_or, set, take, drop}
 use Rattle.laws.specs.Tests.{any}
 use Rattle.laws.specs.Lists.{tab, written}
+use Rattle.refusals.specs.Numbers.{number}
 use Rattle.sheet_spec.specs.Limits.{most_blocks, most_outputs, most_rows, most_record_bytes}
 use Rattle.stored_spec.specs.StoredForm.{well_formed, cell_count, cell_at, row_count}
 use Rattle.stored_spec.specs.RowBytes.{two_bytes, row_value, room}
@@ -23,7 +24,7 @@ pub data Answer : Type 0 where
 unfoldable pub answer_of : StepAnswer → Answer
 answer_of (Went b c) = went b c
 answer_of Idle = idle
-answer_of (Refused n) = refused n
+answer_of (Refused r) = refused (number r)
 
 -- the answer that a number is, where 0 is accepted
 unfoldable pub numbered : ℕ → Answer

@@ -2,6 +2,7 @@
 
 #![tactic(auto)]
 
+use refusals::Refusal;
 use sheet_spec::MOST_OUTPUTS;
 use stored_spec::MOST_RECORD_BYTES;
 
@@ -42,10 +43,10 @@ pub struct Scan {
     pub outputs: [u8; BANK_OUTPUTS],
 }
 
-// What a step answers: the block and the cell that it read, that there is nothing to read, or the number of its refusal.
-#[derive(Clone, Copy)]
+// What a step answers: the block and the cell that it read, that there is nothing to read, or its refusal.
+#[derive(Clone, Copy, Debug, PartialEq, Eq)]
 pub enum StepAnswer {
     Went(u8, u8),
     Idle,
-    Refused(u8),
+    Refused(Refusal),
 }

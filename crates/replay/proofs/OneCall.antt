@@ -2,6 +2,7 @@
 -- Assumes nothing.
 use mathlib.Core.Path.{◌≡◌, refl, sym, ◌∙◌, ap}
 use mathlib.Core.List.{List}
+use Rattle.std.specs.Prelude.{Result, Ok, Err}
 use Prim.Native.Nat.{ℕ, ◌+◌, ◌*◌, ◌-◌, ◌<◌, ◌≤◌}
 use native.Mathlib.Omega.{arith}
 use borrow.Author.Tests.{leb-true, ne_eqb}
@@ -11,74 +12,58 @@ use Rattle.laws.specs.Lists.{tab}
 use Rattle.laws.proofs.Cases.{by_test, cond_yes, cond_no}
 use Rattle.bank_spec.specs.declared.Bank.{Bank}
 use Rattle.bank_spec.specs.declared.Scan.{Scan}
-use Rattle.bank_spec.specs.declared.StepAnswer.{StepAnswer}
-use Rattle.bank_spec.specs.declared.StepAnswer.TheVariants.{Went, Idle, Refused}
+use Rattle.refusals.specs.declared.Refusal.{Refusal}
+use Rattle.refusals.specs.Numbers.{number, answered}
+use Rattle.refusals.proofs.Promises.{never-zero}
 use Rattle.bank_spec.specs.State.{State, limit_refused, state_of}
-use Rattle.bank_spec.specs.Calls.{After, numbered, answer_of, handed, admit, latch, step}
-use Rattle.bank.specs.declared.Started.{Started}
-use Rattle.bank.specs.Given.{given_number, given_answer, started}
+use Rattle.bank_spec.specs.Calls.{Answer, accepted, refused, After, numbered, handed, admit, latch, step}
+use Rattle.bank.specs.Given.{Started, given_number, admission_given, started, started_given}
 use Rattle.bank_spec.specs.CallLists.{call, admission, latching, stepping}
 use Rattle.replay.specs.Coded.{making, calling, pair, triple, said_size, size, block_from, first}
-use Rattle.replay.specs.Entries.{on_bank, kind_of, first_of, second_of}
-use Rattle.replay.specs.Replay.{Shown, shown, shown_of}
+use Rattle.replay.specs.Entries.{on_bank}
 
--- what a number shows
-pub shown-accepted : (n : ℕ) (k : Bank) (s : Scan) (rows : List ℕ) → n ≡ 0 → shown_of 0 0 0 k s rows ≡ shown (given_number n k s rows)
-unfolding shown kind_of first_of second_of numbered
-shown-accepted n k s rows h = rw h
+-- a refusal's number is never that of an acceptance
+pub refused_number : (r : Refusal) → refused (number r) ≡ numbered (number r)
+unfolding numbered
+refused_number r = rw (ne_eqb (number r) 0 (never-zero r)) refl
 
-pub shown-refused : (n : ℕ) (k : Bank) (s : Scan) (rows : List ℕ) → (n ≡ 0 → ⊥) → shown_of 1 n 0 k s rows ≡ shown (given_number n k s rows)
-unfolding shown kind_of first_of second_of numbered
-shown-refused n k s rows h = rw (ne_eqb n 0 h) refl
+-- an outcome's answer
+pub answer_accepted : {A : Type 0} {d : Result A Refusal} {x : A} → d ≡ Ok x → accepted ≡ numbered (answered d)
+unfolding numbered
+answer_accepted {A} e = ap (λ (y : Result A Refusal). numbered (answered y)) (sym e)
 
--- what a step's answer shows
-module _ (k : Bank) (s : Scan) (rows : List ℕ) {a : StepAnswer} where
-  pub shown-went : (b c : ℕ) → a ≡ Went b c → shown_of 3 b c k s rows ≡ shown (given_answer a k s rows)
-  unfolding shown kind_of first_of second_of answer_of
-  shown-went b c e = sym (ap (λ (x : StepAnswer). shown (given_answer x k s rows)) e)
+pub answer-refused : {A : Type 0} {d : Result A Refusal} (r : Refusal) → d ≡ Err r → refused (number r) ≡ numbered (answered d)
+answer-refused {A} r e = refused_number r ∙ ap (λ (y : Result A Refusal). numbered (answered y)) (sym e)
 
-  pub shown-idle : a ≡ Idle → shown_of 2 0 0 k s rows ≡ shown (given_answer a k s rows)
-  unfolding shown kind_of first_of second_of answer_of
-  shown-idle e = sym (ap (λ (x : StepAnswer). shown (given_answer x k s rows)) e)
+pub same_answer : (k : Bank) (s : Scan) (rows : List ℕ) {a b : Answer} → a ≡ b
+    → ◌≡◌ {A = After State} (record { answer = a; state = state_of k s rows }) (record { answer = b; state = state_of k s rows })
+same_answer k s rows e = ap (λ (a : Answer). record { answer = a; state = state_of k s rows }) e
 
-  pub shown-step-refused : (n : ℕ) → a ≡ Refused n → shown_of 1 n 0 k s rows ≡ shown (given_answer a k s rows)
-  unfolding shown kind_of first_of second_of answer_of
-  shown-step-refused n e = sym (ap (λ (x : StepAnswer). shown (given_answer x k s rows)) e)
-
--- a bank made, and refused
-module _ (k : Bank) (s : Scan) (S : ℕ) {made : Started} (e : made ≡ started S) where
-  pub made_accepts : made.refusal ≡ 0 → (rows : List ℕ) → shown (given_number 0 made.bank made.scan rows) ≡ shown (on_bank (state_of k s rows) (making S))
+-- a bank made, or refused
+module _ (k : Bank) (s : Scan) (S : ℕ) (rows : List ℕ) where
+  pub made_given : (x : Result (Bank × Scan) Refusal) → started_given x ≡ started S → admission_given x k s rows ≡ on_bank (state_of k s rows) (making S)
   unfolding started on_bank numbered
-  made_accepts z rows =
+  made_given (Ok made) e =
       by_test (limit_refused S)
-      (λ t. absurd (omega (arith, z, ap (λ (m : Started). m.refusal) (e ∙ cond_yes (limit_refused S) _ _ t))))
+      (λ t. absurd (omega (arith, ap (λ (m : Started). m.refusal) (e ∙ cond_yes (limit_refused S) _ _ t))))
       (λ t.
-      ap shown
-      (ap (λ (m : Started). given_number 0 m.bank m.scan rows) (e ∙ cond_no (limit_refused S) _ _ t)
-      ∙ sym (cond_no (limit_refused S) _ _ t)))
-
-  pub made_refuses : (made.refusal ≡ 0 → ⊥) → (rows : List ℕ) → shown (given_number 1 k s rows) ≡ shown (on_bank (state_of k s rows) (making S))
-  unfolding started on_bank numbered
-  made_refuses z rows =
+      ap (λ (m : Started). given_number 0 m.bank m.scan rows) (e ∙ cond_no (limit_refused S) _ _ t)
+      ∙ sym (cond_no (limit_refused S) _ _ t))
+  made_given (Err r) e =
       by_test (limit_refused S)
-      (λ t. ap shown (sym (cond_yes (limit_refused S) _ _ t)))
-      (λ t. absurd (z (ap (λ (m : Started). m.refusal) (e ∙ cond_no (limit_refused S) _ _ t))))
+      (λ t.
+      ap (λ (n : ℕ). given_number n k s rows) (ap (λ (m : Started). m.refusal) (e ∙ cond_yes (limit_refused S) _ _ t))
+      ∙ sym (cond_yes (limit_refused S) _ _ t))
+      (λ t. absurd (never-zero r (ap (λ (m : Started). m.refusal) (e ∙ cond_no (limit_refused S) _ _ t))))
 
 -- the block of an admission, as cut out of its bytes from place i on
-pub shown-admit : (k : Bank) (s : Scan) (rows l : List ℕ) (i period phase a b : ℕ) {x : Shown} {r : After State} → a ≡ pair l 1 → b ≡ triple l 3
-    → x ≡ shown r
-    → r ≡ admit (state_of k s rows) (handed (take (i + a - i) (drop i l)) (take (i + a + b - (i + a)) (drop (i + a) l)) period phase)
-    → x ≡ shown (admit (state_of k s rows) (block_from i l period phase))
-shown-admit k s rows l i period phase a b p q e d =
+pub cut_out : (k : Bank) (s : Scan) (rows l : List ℕ) (i period phase a b : ℕ) {x : After State} → a ≡ pair l 1 → b ≡ triple l 3
+    → x ≡ admit (state_of k s rows) (handed (take (i + a - i) (drop i l)) (take (i + a + b - (i + a)) (drop (i + a) l)) period phase)
+    → x ≡ admit (state_of k s rows) (block_from i l period phase)
+cut_out k s rows l i period phase a b p q d =
     let u : i + a - i ≡ pair l 1 = omega (arith, p) in
     let v : i + a + b - (i + a) ≡ triple l 3 = omega (arith, q) in
-    e ∙ ap shown (rw (u, v, p) at d)
-
--- a latch of the words in its bytes
-pub shown-latch : (k : Bank) (s : Scan) (rows l : List ℕ) {ws : List ℕ} {x : Shown} {r : After State} → ws ≡ tab 8 (λ b. pair l (1 + 2 * b))
-    → x ≡ shown r → r ≡ latch (state_of k s rows) ws
-    → x ≡ shown (latch (state_of k s rows) (tab 8 (λ b. pair l (1 + 2 * b))))
-shown-latch k s rows l p e d = e ∙ ap shown (d ∙ ap (latch (state_of k s rows)) p)
+    rw (u, v, p) at d
 
 -- the call at the front, by its first byte
 module _ (l : List ℕ) where
@@ -123,27 +108,27 @@ module _ (l : List ℕ) where
   pub admission_there : 0 < size l → get_or l 0 0 ≡ 4 → 8 + pair l 1 + triple l 3 ≤ length l
   admission_there h e = omega (arith, said-admit e, there h)
 
--- what it shows on a bank
-module _ (k : Bank) (s : Scan) (rows l : List ℕ) {x : Shown} where
-  pub made-first : {S : ℕ} → get_or l 0 0 ≡ 0 → S ≡ pair l 1 → x ≡ shown (on_bank (state_of k s rows) (making S))
-      → x ≡ shown (on_bank (state_of k s rows) (first l))
+-- what it gives on a bank
+module _ (k : Bank) (s : Scan) (rows l : List ℕ) {x : After State} where
+  pub made-first : {S : ℕ} → get_or l 0 0 ≡ 0 → S ≡ pair l 1 → x ≡ on_bank (state_of k s rows) (making S)
+      → x ≡ on_bank (state_of k s rows) (first l)
   made-first e p d = rw (first_make l e, sym p) d
 
-  pub older_first : get_or l 0 0 ≡ 1 → x ≡ shown (admit (state_of k s rows) (block_from 6 l 1 0)) → x ≡ shown (on_bank (state_of k s rows) (first l))
+  pub older_first : get_or l 0 0 ≡ 1 → x ≡ admit (state_of k s rows) (block_from 6 l 1 0) → x ≡ on_bank (state_of k s rows) (first l)
   unfolding on_bank call
   older_first e d = rw (first_older l e) d
 
-  pub admitted-first : {p f : ℕ} → get_or l 0 0 ≡ 4 → p ≡ get_or l 6 0 → f ≡ get_or l 7 0 → x ≡ shown (admit (state_of k s rows) (block_from 8 l p f))
-      → x ≡ shown (on_bank (state_of k s rows) (first l))
+  pub admitted-first : {p f : ℕ} → get_or l 0 0 ≡ 4 → p ≡ get_or l 6 0 → f ≡ get_or l 7 0 → x ≡ admit (state_of k s rows) (block_from 8 l p f)
+      → x ≡ on_bank (state_of k s rows) (first l)
   unfolding on_bank call
   admitted-first e p f d = rw (first-admit l e, sym p, sym f) d
 
-  pub latched-first : get_or l 0 0 ≡ 2 → x ≡ shown (latch (state_of k s rows) (tab 8 (λ b. pair l (1 + 2 * b))))
-      → x ≡ shown (on_bank (state_of k s rows) (first l))
+  pub latched-first : get_or l 0 0 ≡ 2 → x ≡ latch (state_of k s rows) (tab 8 (λ b. pair l (1 + 2 * b)))
+      → x ≡ on_bank (state_of k s rows) (first l)
   unfolding on_bank call
   latched-first e d = rw (first-latch l e) d
 
   pub stepped_first : (get_or l 0 0 ≡ 0 → ⊥) → (get_or l 0 0 ≡ 1 → ⊥) → (get_or l 0 0 ≡ 2 → ⊥) → (get_or l 0 0 ≡ 4 → ⊥)
-      → x ≡ shown (step (state_of k s rows)) → x ≡ shown (on_bank (state_of k s rows) (first l))
+      → x ≡ step (state_of k s rows) → x ≡ on_bank (state_of k s rows) (first l)
   unfolding on_bank call
   stepped_first p q r t d = rw (first_step l p q r t) d

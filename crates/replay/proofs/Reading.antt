@@ -7,13 +7,25 @@ use Prim.Native.Nat.{ℕ, zero, suc, ◌<◌, ◌≤◌}
 use native.Mathlib.Omega.{arith}
 use lib.Dec.{eqb, leb}
 use lib.ListN.{length, drop, length-drop}
-use borrow.Author.Tests.{leb-true, eq-eqb, ne_eqb}
+use borrow.Author.Tests.{leb-true, lt-leb, le-leb, eq-eqb, ne_eqb}
 use Rattle.laws.proofs.Cases.{by_less, cond_yes, cond_no, cond_both, cond-each}
 use Rattle.replay.specs.Coded.{Coded, said_size, size, first, calls_to, left_after, calls_in, readable}
 
 pub size_fits_lem : (l : List ℕ) → size l ≤ length l
 unfolding size
 size_fits_lem l = cond-each (λ (r : ℕ). r ≤ length l) (leb (said_size l) (length l)) (leb-true (said_size l) (length l)) (λ e. omega arith)
+
+pub none_said : (l : List ℕ) → said_size l ≡ 0 → size l ≡ 0
+unfolding size
+none_said l e = cond-each (λ (r : ℕ). r ≡ 0) (leb (said_size l) (length l)) (λ _. e) (λ _. refl)
+
+pub short-said : (l : List ℕ) → length l < said_size l → size l ≡ 0
+unfolding size
+short-said l h = cond_no _ _ _ (lt-leb (said_size l) (length l) h)
+
+pub whole-said : (l : List ℕ) → said_size l ≤ length l → size l ≡ said_size l
+unfolding size
+whole-said l h = cond_yes _ _ _ (le-leb (said_size l) (length l) h)
 
 -- n turns of reading: `end` where no call stands at the front, else `turn` of what is read after it
 module _ {A : Type 0} (end : List ℕ → A) (turn : List ℕ → A → A) (read : ℕ → List ℕ → A) (read-zero : (l : List ℕ) → read 0 l ≡ end l)

@@ -19,11 +19,10 @@ use Rattle.laws.proofs.Puts.{puts_at-sets}
 use Rattle.bank_spec.specs.declared.Bank.{Bank}
 use Rattle.bank_spec.specs.declared.Scan.{Scan}
 use Rattle.bank_spec.specs.State.{State, fresh, state_of}
-use Rattle.bank_spec.specs.Calls.{outputs_of}
+use Rattle.bank_spec.specs.Calls.{Answer, After, outputs_of}
 use Rattle.bank_spec.specs.CallLists.{Entry, outputs_held}
 use Rattle.replay.specs.Coded.{Coded}
-use Rattle.replay.specs.Entries.{no_bank, book_entries, on_bank, bank_after, entry_bytes, trace_bytes}
-use Rattle.replay.specs.Replay.{Shown, shown, shown_of}
+use Rattle.replay.specs.Entries.{no_bank, book_entries, on_bank, bank_after, kind_of, first_of, second_of, entry_bytes, trace_bytes}
 use Rattle.replay.proofs.BookTraces.{entry_of, bank_entries, entries_same}
 
 -- the row memory and the memory for the trace
@@ -88,8 +87,9 @@ ran_whole rows cs tr h =
     (ran_trace cs (fresh 0 rows) 0 tr (omega arith) ∙ ap (λ (es : List Entry). written tr 0 (trace_bytes es)) (entries_same rows cs))
 
 -- the 68 bytes of an answer, and of bank and scan state after it
-abbrev pub call_bytes : ℕ → ℕ → ℕ → Bank → Scan → List ℕ
-call_bytes kind x y k s = kind ∷ x ∷ y ∷ k.count ∷ tab 64 (λ i. cond (ltb i (8 * k.count)) (get_or s.outputs i 0) 2)
+abbrev pub call_bytes : Answer → Bank → Scan → List ℕ
+call_bytes a k s =
+    kind_of a ∷ first_of a ∷ second_of a ∷ k.count ∷ tab 64 (λ i. cond (ltb i (8 * k.count)) (get_or s.outputs i 0) 2)
 
 -- stored one after another
 pub entry-stored : (l : List ℕ) (at a x y n : ℕ) (f : ℕ → ℕ) → at + 68 ≤ length l
@@ -105,22 +105,19 @@ entry-stored l at a x y n f h =
     ∙ ap₂ (λ (i j : ℕ). sets (set (set (set (set l at a) (suc at) x) (suc (suc at)) y) i n) j (tab 64 f)) three four
     ∙ sym (written-sets l at (a ∷ x ∷ y ∷ n ∷ tab 64 f) fits)
 
--- a call from what is shown of it
-module _ (st : State) (c : Coded) (kind x y : ℕ) (k : Bank) (s : Scan) (rows : List ℕ) (e : shown_of kind x y k s rows ≡ shown (on_bank st c)) where
-  same-state : (on_bank st c).state ≡ state_of k s rows
-  unfolding shown
-  same-state = ap (λ (z : Shown). z.state) (sym e)
-
-  entry-shown : length s.outputs ≡ 64 → entry_bytes (entry_of (on_bank st c)) ≡ call_bytes kind x y k s
-  unfolding entry_bytes shown outputs_held
-  entry-shown all =
+-- a call from its answer and what is left
+module _ (st : State) (c : Coded) (a : Answer) (k : Bank) (s : Scan) (rows : List ℕ) (e : record { answer = a; state = state_of k s rows } ≡ on_bank st c) where
+  entry-given : length s.outputs ≡ 64 → entry_bytes (entry_of (on_bank st c)) ≡ call_bytes a k s
+  unfolding entry_bytes outputs_held
+  entry-given all =
       let held : State = state_of k s rows in
-      ap (λ (z : Shown). z.kind ∷ z.first ∷ z.second ∷ length (outputs_held z.state) ∷ tab 64 (λ i. get_or (get_or (outputs_held z.state) (i / 8) []) (i % 8) 2)) (sym e)
-      ∙ ap₂ (λ (n : ℕ) (os : List ℕ). kind ∷ x ∷ y ∷ n ∷ os) (length-tab (outputs_of s) k.count)
+      ap (λ (z : After State). entry_bytes (entry_of z)) (sym e)
+      ∙ ap₂ (λ (n : ℕ) (os : List ℕ). kind_of a ∷ first_of a ∷ second_of a ∷ n ∷ os) (length-tab (outputs_of s) k.count)
       (tab_ext (λ i. get_or (get_or (outputs_held held) (i / 8) []) (i % 8) 2) (λ i. cond (ltb i (8 * k.count)) (get_or s.outputs i 0) 2) 64 (output_held held all))
 
   -- the rest of the calls goes on after its bytes
   pub ran_more : length s.outputs ≡ 64 → (cs : List Coded) (at : ℕ) (tr : List ℕ)
-      → ran st (c ∷ cs) at tr ≡ ran (state_of k s rows) cs (at + 68) (written tr at (call_bytes kind x y k s))
+      → ran st (c ∷ cs) at tr ≡ ran (state_of k s rows) cs (at + 68) (written tr at (call_bytes a k s))
   unfolding ran
-  ran_more all cs at tr = ap₂ (λ (z : State) (b : List ℕ). ran z cs (at + 68) (written tr at b)) same-state (entry-shown all)
+  ran_more all cs at tr =
+      ap₂ (λ (z : State) (b : List ℕ). ran z cs (at + 68) (written tr at b)) (ap (λ (z : After State). z.state) (sym e)) (entry-given all)

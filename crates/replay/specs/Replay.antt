@@ -2,12 +2,13 @@
 -- Assumes nothing.
 use Rattle.std.specs.Prelude.{ℕ, ◌*◌, cond, not, List, ltb, length}
 use Rattle.laws.specs.Lists.{written}
-use Rattle.bank_spec.specs.declared.Bank.{Bank}
-use Rattle.bank_spec.specs.declared.Scan.{Scan}
-use Rattle.bank_spec.specs.State.{State, fresh, state_of}
-use Rattle.bank_spec.specs.Calls.{After}
+use Rattle.refusals.specs.Numbers.{number}
+use Rattle.bank_spec.specs.State.{fresh}
+use Rattle.bank_spec.specs.Calls.{Answer, accepted, refused, idle, went}
 use Rattle.replay.specs.Coded.{calls_in, readable}
-use Rattle.replay.specs.Entries.{no_bank, book_entries, bank_after, kind_of, first_of, second_of, trace_bytes}
+use Rattle.replay.specs.Entries.{no_bank, book_entries, bank_after, trace_bytes}
+use Rattle.replay.specs.declared.calling.CallAnswer.{CallAnswer}
+use Rattle.replay.specs.declared.calling.CallAnswer.TheVariants.{Accepted, Refused, Idle, Went}
 
 pub record Replayed : Type 0 where
   pub refusal : ℕ
@@ -27,15 +28,9 @@ replay list rows trace =
       trace = written trace 0 (trace_bytes (book_entries (length rows) no_bank (calls_in list)));
     }))
 
--- a call's answer in three bytes, and the state after
-pub record Shown : Type 0 where
-  pub kind : ℕ
-  pub first : ℕ
-  pub second : ℕ
-  pub state : State
-
-abbrev pub shown_of : ℕ → ℕ → ℕ → Bank → Scan → List ℕ → Shown
-shown_of a x y k s rows = record { kind = a; first = x; second = y; state = state_of k s rows }
-
-unfoldable pub shown : After State → Shown
-shown r = record { kind = kind_of r.answer; first = first_of r.answer; second = second_of r.answer; state = r.state }
+-- the answer that a call's enum is
+abbrev pub call_answer : CallAnswer → Answer
+call_answer Accepted = accepted
+call_answer (Refused r) = refused (number r)
+call_answer Idle = idle
+call_answer (Went b c) = went b c

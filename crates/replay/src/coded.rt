@@ -1,21 +1,12 @@
 // Calls in bytes.
-ghost use Rattle.std.specs.Prelude.{◌≡◌, true, ◌≤◌, ◌<◌, ◌+◌, ◌*◌, length, get_or};
+ghost use Rattle.std.specs.Prelude.{◌≡◌, cond, eqb, Some, None, ◌<◌, ◌+◌, ◌*◌, length, get_or};
 ghost use Rattle.laws.specs.Lists.{tab};
 ghost use Rattle.replay.specs.Coded.{pair, triple, said_size, size, calls_in, readable};
-
-use numbers::wide;
-
-// The calls of a list that is whole.
-#[derive(Clone, Copy)]
-pub struct Counted {
-    pub whole: bool,
-    pub calls: usize,
-}
 
 pub fn byte_at(list: &[u8], i: usize) -> usize
     ensures { (result ≡ get_or list.now i 0) × (result < 256) }
 {
-    wide(numbers::byte_at(list, i))
+    usize::from(numbers::byte_at(list, i))
 }
 
 // The number in the two bytes at place i.
@@ -41,60 +32,44 @@ pub fn triple_at(list: &[u8], i: usize) -> usize
 fn said_size(list: &[u8]) -> usize
     ensures { result ≡ said_size list.now }
 {
-    let code = byte_at(list, 0);
-    if code == 0 {
-        return 3;
+    match byte_at(list, 0) {
+        0 => 3,
+        1 => 6 + pair_at(list, 1) + triple_at(list, 3),
+        2 => 17,
+        3 => 1,
+        4 => 8 + pair_at(list, 1) + triple_at(list, 3),
+        _ => 0,
     }
-    if code == 1 {
-        let records = pair_at(list, 1);
-        let rows = triple_at(list, 3);
-        return 6 + records + rows;
-    }
-    if code == 2 {
-        return 17;
-    }
-    if code == 3 {
-        return 1;
-    }
-    if code == 4 {
-        let records = pair_at(list, 1);
-        let rows = triple_at(list, 3);
-        return 8 + records + rows;
-    }
-    0
 }
 
-// The bytes of the call at the front, 0 where no whole call stands there.
-pub fn call_size(list: &[u8]) -> usize
-    ensures { (result ≡ size list.now) × (result ≤ length list.now) }
+// The bytes of the call at the front, where a whole one stands there.
+pub fn call_size(list: &[u8]) -> Option<usize>
+    ensures { result ≡ cond (eqb (size list.now) 0) None (Some (size list.now)) }
 {
     let said = said_size(list);
-    if said <= list.len() {
-        return said;
+    if said == 0 {
+        return None;
     }
-    0
+    if list.len() < said {
+        return None;
+    }
+    Some(said)
 }
 
 // How many calls the list has, where it is whole calls.
-pub fn count_calls(list: &[u8]) -> Counted
-    ensures { (result.whole ≡ readable list.now)
-        × (readable list.now ≡ true → result.calls ≡ length (calls_in list.now))
-        × (result.calls ≤ length list.now) }
+pub fn count_calls(list: &[u8]) -> Option<usize>
+    ensures { result ≡ cond (readable list.now) (Some (length (calls_in list.now))) None }
 {
     let mut calls = 0;
-    let mut at = 0;
-    while at < list.len() {
-        let n = call_size(&list[at..]);
-        if n == 0 {
-            return Counted {
-                whole: false,
-                calls: 0,
-            };
-        }
+    let mut rest = list;
+    while let Some(n) = call_size(rest) {
         calls += 1;
-        at += n;
+        rest = &rest[n..];
     }
-    Counted { whole: true, calls }
+    if rest.is_empty() {
+        return Some(calls);
+    }
+    None
 }
 
 fn word_at(list: &[u8], b: usize) -> u16
@@ -109,10 +84,8 @@ pub fn words_in(list: &[u8]) -> [u16; 8]
     ensures { result ≡ tab 8 (λ b. pair list.now (1 + 2 * b)) }
 {
     let mut words = [0u16; 8];
-    let mut b = 0;
-    while b < 8 {
+    for b in 0..8 {
         words[b] = word_at(list, b);
-        b += 1;
     }
     words
 }

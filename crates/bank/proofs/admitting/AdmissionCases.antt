@@ -2,17 +2,21 @@
 -- Assumes nothing.
 use mathlib.Core.Path.{◌≡◌, refl, sym, ◌∙◌, ap, ap₂}
 use mathlib.Core.Bool.{Bool, true, false, cond, not, ◌||◌}
-use mathlib.Core.List.{List}
-use Prim.Native.Nat.{ℕ, ◌+◌, ◌*◌, ◌/◌, ◌<◌, ◌≤◌}
+use mathlib.Core.List.{List, ◌++◌, append_assoc}
+use Prim.Native.Nat.{ℕ, ◌+◌, ◌-◌, ◌*◌, ◌/◌, ◌<◌, ◌≤◌}
 use native.Mathlib.Omega.{arith}
+use borrow.Rule.Slice.PartMut.{put_mid}
+use Rattle.std.specs.Prelude.{Option, Some, None, Result, Ok, Err}
+use Rattle.std.specs.Option.{ok_or}
+use Rattle.refusals.specs.declared.Refusal.{Refusal}
+use lib.Seq.{drop-drop}
 use borrow.Author.Tests.{ltb-false, leb-true, leb-false, lt-ltb, le-ltb, le-leb, lt-leb}
 use lib.Dec.{eqb, leb, ltb}
-use lib.ListN.{length, get_or, set}
-use Rattle.laws.specs.Lists.{puts_at, written}
+use lib.ListN.{length, set, take, drop}
+use Rattle.laws.specs.Lists.{written}
 use Rattle.laws.specs.Tests.{any, every}
 use Rattle.laws.proofs.Tests.{any_none, any_of, every_at, every_out}
 use Rattle.laws.proofs.Cases.{by_test, cond_yes, cond_no, or_split}
-use Rattle.laws.proofs.Puts.{copied_at}
 use Rattle.stored_spec.specs.RowBytes.{two_bytes}
 use Rattle.stored_spec.specs.StoredForm.{well_formed, record_count, cell_count, row_count}
 use Rattle.stored.specs.Reads.{rows_counted}
@@ -24,12 +28,17 @@ use Rattle.bank_spec.specs.declared.Bank.{Bank}
 use Rattle.bank_spec.specs.declared.Scan.{Scan}
 use Rattle.bank_spec.specs.Calls.{After, numbered, Handed, handed, admit_refusal, with_block, admitted, admit}
 use Rattle.bank.specs.Given.{given_number}
-use Rattle.bank.proofs.due_blocks.DueTests.{fits_at}
-use Rattle.bank.proofs.formed.HeldBlocks.{BankHas, bank-has, state-bank}
+use Rattle.bank.proofs.timing.DueTests.{fits_at}
+
+-- a list put back whole in another, as the part from place a on
+pub put_whole : (a : ℕ) (l vs : List ℕ) {m : ℕ} → m ≡ a + length vs → put_mid a (m - a) l vs ≡ written l a vs
+put_whole a l vs {m} e =
+    let n : a + (m - a) ≡ a + length vs = omega arith in
+    ap (λ (r : List ℕ). take a l ++ (vs ++ r)) (drop-drop (m - a) a l ∙ ap (λ (i : ℕ). drop i l) n)
+    ∙ sym (append_assoc (take a l) vs (drop (a + length vs) l))
 
 -- the bank with the block, from its parts
-pub block-added : (k : Bank) (R bytes : List ℕ) (period phase : ℕ) {n : ℕ} {held : List ℕ} → n ≡ k.count → n * 80 + length R ≤ length k.records
-    → held ≡ puts_at (n * 80) (length R) (λ i. get_or R i 0) k.records
+pub block-added : (k : Bank) (R bytes : List ℕ) (period phase : ℕ) {n : ℕ} {held : List ℕ} → n ≡ k.count → held ≡ written k.records (n * 80) R
     → record {
       limit = k.limit;
       count = k.count + 1;
@@ -40,7 +49,7 @@ pub block-added : (k : Bank) (R bytes : List ℕ) (period phase : ℕ) {n : ℕ}
     }
     ≡ with_block k (handed R bytes period phase)
 unfolding with_block
-block-added k R bytes period phase {n} {held} e h p =
+block-added k R bytes period phase {n} {held} e p =
     ap₂
     (λ (i : ℕ) (l : List ℕ).
     record {
@@ -51,7 +60,16 @@ block-added k R bytes period phase {n} {held} e h p =
       periods = set k.periods i period;
       phases = set k.phases i phase;
     })
-    e (p ∙ copied_at k.records (n * 80) R h ∙ ap (λ (i : ℕ). written k.records (i * 80) R) e)
+    e (p ∙ ap (λ (i : ℕ). written k.records (i * 80) R) e)
+
+-- what was there where a refusal stands for what is missing, and what was missing
+pub there_by : {A : Type 0} (o : Option A) (e : Refusal) {x : Result A Refusal} → x ≡ ok_or o e → {t : A} → x ≡ Ok t → o ≡ Some t
+there_by (Some y) e {x} f g = let h : x ≡ Ok y = f in cc
+there_by None e {x} f g = let h : x ≡ Err e = f in absurd (cc)
+
+pub missing_by : {A : Type 0} (o : Option A) (e : Refusal) {x : Result A Refusal} → x ≡ ok_or o e → (r : Refusal) → x ≡ Err r → (o ≡ None) × (r ≡ e)
+missing_by (Some y) e {x} f r g = let h : x ≡ Ok y = f in absurd (cc)
+missing_by None e {x} f r g = let h : x ≡ Err e = f in (refl, cc)
 
 -- some scan would read over limit cells exactly where not every scan fits
 over_is : (f : ℕ → ℕ) (limit n : ℕ) → any n (λ i. ltb limit (f i)) ≡ not (every n (λ i. leb (f i) limit))
@@ -63,10 +81,6 @@ over_is f limit n =
     (λ e.
     let (i, l, h) = every_out (λ i. leb (f i) limit) n e in
     any_of (λ i. ltb limit (f i)) n i l (lt-ltb limit (f i) (leb-false (f i) limit h)) ∙ sym (ap not e))
-
--- what holds of a bank whose state is well formed
-pub bank_there : (k : Bank) (s : Scan) → formed k s ≡ true → BankHas k
-bank_there k s e = bank-has k (state-bank k s e)
 
 -- what holds of a well formed block
 pub record BlockHas (R bytes : List ℕ) : Type 0 where
@@ -163,9 +177,8 @@ module _ (k : Bank) (s : Scan) (rows R bytes : List ℕ) (period phase : ℕ) wh
 
           -- none
           pub admit_accepts : {k' : Bank} {s' : Scan} {rows' : List ℕ} → k' ≡ with_block k block → s' ≡ at_rest
-              → rows' ≡ puts_at (a * 2) (length bytes) (λ i. get_or bytes i 0) rows → given_number 0 k' s' rows' ≡ admit held block
+              → rows' ≡ written rows (a * 2) bytes → given_number 0 k' s' rows' ≡ admit held block
           unfolding numbered admitted
           admit_accepts x y z =
-              let rest : _ = z ∙ copied_at rows (a * 2) bytes rows_fit
-              ∙ ap (λ (i : ℕ). written rows i bytes) (ap (λ (n : ℕ). n * 2) (u ∙ ap (rows_before k) p) ∙ sym (room_two (rows_held k))) in
+              let rest : _ = z ∙ ap (λ (i : ℕ). written rows i bytes) (ap (λ (n : ℕ). n * 2) (u ∙ ap (rows_before k) p) ∙ sym (room_two (rows_held k))) in
               (λ i. given_number 0 (x i) (y i) (rest i)) ∙ answered 0 (past_14 ∙ cond_no (short (a + r)) 11 0 e)

@@ -94,6 +94,10 @@ module _ (k : Bank) (b : ℕ) where
         pub words_at_most : 2 ^ u ≤ 4096
         words_at_most = pow_mono {j = 12} (omega (arith, upper_is, rails_at_most))
 
+-- each of the blocks held
+pub block_at : (k : Bank) → every k.count (block_formed k) ≡ true → (b : ℕ) → b < k.count → block_formed k b ≡ true
+block_at k e = every_at (block_formed k) k.count e
+
 -- one block more
 pub rows_next : (k : Bank) (b : ℕ) {n m : ℕ} → n ≡ rows_before k b → m ≡ row_count (records_of k b) → n + m ≡ rows_before k (b + 1)
 unfolding rows_before
@@ -132,6 +136,7 @@ pub record BankHas (k : Bank) : Type 0 where
   pub low : 1 ≤ k.limit
   pub high : k.limit ≤ 255
   pub few : k.count ≤ 8
+  pub all : every k.count (block_formed k) ≡ true
   pub blocks : (b : ℕ) → b < k.count → block_formed k b ≡ true
   pub cells : (n : ℕ) → n < 8 → cells_held k n ≤ k.limit
   pub rows : rows_held k ≤ 32768
@@ -148,7 +153,8 @@ bank-has k e =
       low = w.0;
       high = w.1;
       few = leb-true k.count 8 a.1;
-      blocks = every_at (block_formed k) k.count b.1;
+      all = b.1;
+      blocks = block_at k b.1;
       cells = λ n l. leb-true (cells_held k n) k.limit (every_at (λ n. leb (cells_held k n) k.limit) 8 c.1 n l);
       rows = leb-true (rows_held k) 32768 d.1;
     }
@@ -156,6 +162,10 @@ bank-has k e =
 pub state-bank : (k : Bank) (s : Scan) → formed k s ≡ true → bank_formed k ≡ true
 unfolding formed
 state-bank k s e = (and_split (bank_formed k) (scan_formed k s) e).0
+
+-- what holds of a bank whose state is well formed
+pub bank_there : (k : Bank) (s : Scan) → formed k s ≡ true → BankHas k
+bank_there k s e = bank-has k (state-bank k s e)
 
 -- the test of a scan state from its parts
 module _ (k : Bank) (s : Scan) where

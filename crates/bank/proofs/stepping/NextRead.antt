@@ -22,8 +22,7 @@ use Rattle.stored.proofs.Promises.{rows_told, rails-told, rows_told_lem, few-out
 use Rattle.bank_spec.specs.declared.Bank.{Bank}
 use Rattle.bank_spec.specs.declared.Scan.{Scan}
 use Rattle.bank_spec.specs.State.{records_of, due_at, rows_before, rows_held, block_formed, bank_formed, scan_formed, formed}
-use Rattle.bank_spec.specs.Calls.{outputs_of}
-use Rattle.bank.proofs.formed.HeldBlocks.{BankHas, bank-has, few-records, records_well, cells_at_most, part_is}
+use Rattle.bank.proofs.formed.HeldBlocks.{BankHas, bank-has, records_well, cells_at_most}
 
 -- eight elements put back in a list
 put_eight : (a : ℕ) (l vs : List ℕ) → length vs ≡ 8 → put_mid a (a + 8 - a) l vs ≡ written l a vs
@@ -87,15 +86,6 @@ module _ (k : Bank) (s : Scan) (e : formed k s ≡ true) (on : s.running ≡ tru
   pub few-lower : (cell_at records s.cell).lower ≤ 16
   few-lower = omega (arith, few-outs records s.cell rows_there)
 
-  -- the records lent, of block b
-  module _ {b n : ℕ} (p : b ≡ s.block) (q : n ≡ get_or k.lengths b 0) where
-    pub part_end : b * 80 + n * 4 ≤ 640
-    part_end =
-        omega (arith, p, block_below, q ∙ ap (λ (i : ℕ). get_or k.lengths i 0) p, few-records k s.block block-formed)
-
-    pub lent-records : mid_of (b * 80) (b * 80 + n * 4 - b * 80) k.records ≡ records
-    lent-records = part_is k b q ∙ ap (records_of k) p
-
   -- the answers for the records R lent, and the cell c
   module _ {R : List ℕ} {c : ℕ} (p : R ≡ records) (q : c ≡ s.cell) where
     pub lower_is : {r : CellRails} → r ≡ cell_rails R c → r.lower ≡ (cell_at records s.cell).lower
@@ -118,25 +108,24 @@ module _ (k : Bank) (s : Scan) (e : formed k s ≡ true) (on : s.running ≡ tru
       omega (arith, row_within records s.cell s.rail w cell-held rail-held, fits)
 
   -- the place r of its row among those of block b, which begin at f
-  module _ {b n c f r : ℕ} (p : b ≡ s.block) (q : n ≡ get_or k.lengths b 0) (g : c ≡ s.cell)
-      (h : r ≡ row_read (mid_of (b * 80) (b * 80 + n * 4 - b * 80) k.records) c s.rail (get_or s.words b 0)) (t : f ≡ rows_before k b) where
+  module _ {b c f r : ℕ} {R : List ℕ} (p : b ≡ s.block) (q : R ≡ records_of k b) (g : c ≡ s.cell) (h : r ≡ row_read R c s.rail (get_or s.words b 0))
+      (t : f ≡ rows_before k b) where
     pub place_is : f + r ≡ rows_before k s.block + row_place records s.cell s.rail (get_or s.words s.block 0)
     place_is =
         ap₂ (λ (x y : ℕ). x + y) (t ∙ ap (rows_before k) p)
-        (row_is (lent-records p q) g (get_or s.words b 0) h
+        (row_is (q ∙ ap (records_of k) p) g (get_or s.words b 0) h
         ∙ ap (λ (i : ℕ). row_place records s.cell s.rail (get_or s.words i 0)) p)
 
     pub place_held : f + r < rows_held k
     place_held = omega (arith, place_is, row-held (get_or s.words s.block 0))
 
   -- the outputs of the block put back
-  pub outputs_back : (x : ℕ) {b : ℕ} {vs : List ℕ} → b ≡ s.block → length vs ≡ b * 8 + 8 - b * 8
-      → vs ≡ outputs_after (cell_at records s.cell) (mid_of (b * 8) (b * 8 + 8 - b * 8) s.outputs) x
-      → put_mid (b * 8) (b * 8 + 8 - b * 8) s.outputs vs
-      ≡ written s.outputs (s.block * 8) (outputs_after (cell_at records s.cell) (outputs_of s s.block) x)
-  unfolding outputs_of
-  outputs_back x {b} {vs} p l h =
+  pub outputs_back : (x : ℕ) (outs : List ℕ) {b : ℕ} {vs : List ℕ} → b ≡ s.block → length vs ≡ b * 8 + 8 - b * 8
+      → vs ≡ outputs_after (cell_at records s.cell) (mid_of (b * 8) (b * 8 + 8 - b * 8) outs) x
+      → put_mid (b * 8) (b * 8 + 8 - b * 8) outs vs
+      ≡ written outs (s.block * 8) (outputs_after (cell_at records s.cell) (take 8 (drop (s.block * 8) outs)) x)
+  outputs_back x outs {b} {vs} p l h =
       let z : b * 8 + 8 - b * 8 ≡ 8 = omega arith in
-      put_eight (b * 8) s.outputs vs (l ∙ z)
-      ∙ ap₂ (λ (i : ℕ) (v : List ℕ). written s.outputs i v) (ap (λ (i : ℕ). i * 8) p)
-      (h ∙ ap₂ (λ (m i : ℕ). outputs_after (cell_at records s.cell) (take m (drop (i * 8) s.outputs)) x) z p)
+      put_eight (b * 8) outs vs (l ∙ z)
+      ∙ ap₂ (λ (i : ℕ) (v : List ℕ). written outs i v) (ap (λ (i : ℕ). i * 8) p)
+      (h ∙ ap₂ (λ (m i : ℕ). outputs_after (cell_at records s.cell) (take m (drop (i * 8) outs)) x) z p)

@@ -17,6 +17,7 @@ use Rattle.bank_spec.specs.declared.Scan.{Scan}
 use Rattle.bank_spec.specs.State.{records_of, rows_held, formed, state_of}
 use Rattle.bank_spec.specs.Calls.{answer_of, scan_at, scan_from, next_row, outputs_of, moved, step}
 use Rattle.bank.specs.Given.{given_answer}
+use Rattle.refusals.specs.declared.Refusal.TheVariants.{NotFormed, RowsShort}
 use Rattle.bank_spec.specs.declared.StepAnswer.TheVariants.{Went, Idle, Refused}
 
 module _ (k : Bank) (s : Scan) (x : ℕ) {l : List ℕ}
@@ -34,7 +35,7 @@ module _ (k : Bank) (s : Scan) (x : ℕ) {l : List ℕ}
   next-block e q h = h ∙ rw e (ap₂ (λ (b : ℕ) (o : List ℕ). scan_from k s.number b s.words o) q p)
 
 module _ (k : Bank) (s : Scan) (rows : List ℕ) where
-  pub not-formed : formed k s ≡ false → given_answer (Refused 12) k s rows ≡ step (state_of k s rows)
+  pub not-formed : formed k s ≡ false → given_answer (Refused NotFormed) k s rows ≡ step (state_of k s rows)
   unfolding step answer_of
   not-formed e = rw e refl
 
@@ -44,7 +45,7 @@ module _ (k : Bank) (s : Scan) (rows : List ℕ) where
     no_scan h = rw (e, h) refl
 
     module _ (on : s.running ≡ true) where
-      pub few-rows : length rows < room two_bytes (rows_held k) → given_answer (Refused 11) k s rows ≡ step (state_of k s rows)
+      pub few-rows : length rows < room two_bytes (rows_held k) → given_answer (Refused RowsShort) k s rows ≡ step (state_of k s rows)
       unfolding step answer_of
       few-rows h = rw (e, on, lt-ltb (length rows) (room two_bytes (rows_held k)) h) refl
 

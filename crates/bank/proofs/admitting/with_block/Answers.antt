@@ -1,23 +1,17 @@
 -- `bank::admitting::with_block` meets its contract.
 -- Assumes nothing.
-use mathlib.Core.Path.{◌≡◌}
-use Prim.Native.Nat.{◌+◌, ◌*◌, ◌≤◌}
+use mathlib.Core.Path.{refl, ◌∙◌, ap}
+use mathlib.Core.List.{List}
+use Prim.Native.Nat.{ℕ, ◌+◌, ◌*◌, ◌-◌}
 use lib.ListN.{length}
-use native.Mathlib.Omega.{arith}
-use Rattle.bank.proofs.admitting.AdmissionCases.{block-added}
-use borrow.Author.Rules.{rules}
+use borrow.Rule.Slice.PartMut.{put_mid}
+use Rattle.bank.proofs.admitting.AdmissionCases.{block-added, put_whole}
 use Rattle.bank.proofs.admitting.with_block.Goals as goal
-
-pub copy_at-requires : goal.copy_at-requires
-copy_at-requires c =
-    let a = c.args in
-    let z : length a.bank.records ≡ 640 = search rules in
-    let g : c.wide-count.result * 80 + length a.records.now ≤ length a.bank.records = omega arith in
-    g
 
 pub returns : goal.returns
 returns c =
-    let a = c.args in
-    let z : length a.bank.records ≡ 640 = search rules in
-    let g : c.wide-count.result * 80 + length a.records.now ≤ length a.bank.records = omega arith in
-    block-added a.bank a.records.now a.bytes.now a.period a.phase c.wide-count.ensures.0 g c.copy_at.ensures
+    let k = c.args.bank.now in
+    let R = c.args.records.now in
+    let start = c.from-b.result * 80 in
+    λ (bytes : List ℕ). block-added k R bytes c.args.timing.period c.args.timing.phase c.from-b.ensures
+    (ap (put_mid start (start + length R - start) k.records) c.copy_from_slice.ensures.after ∙ put_whole start k.records R refl)

@@ -9,9 +9,9 @@ use Rattle.bank.proofs.formed.blocks_formed.Goals as goal
 pub loop-b-preserved : goal.loop-b-preserved
 loop-b-preserved c =
     let l = c.loop-b in
-    (omega arith, every-step (block_formed c.args.bank) l.b l.invariant.1 c.block_formed-good.ensures)
+    every-step (block_formed c.args.bank.now) l.b l.invariant c.block_formed-good.ensures
 
 pub returns : goal.returns
 returns c =
     let e : c.loop-b.b ≡ c.args.count = omega arith in
-    rw e at c.loop-b.invariant.1
+    rw e at c.loop-b.invariant

@@ -9,9 +9,9 @@ use Rattle.bank.proofs.latching.output_kept.Goals as goal
 pub returns-then-keeps : goal.returns-then-keeps
 returns-then-keeps c =
     let a = c.args in
-    sym (cond_yes (keeps a.bank a.number (a.i / 8)) _ _ (sym c.keeps.ensures ∙ c.if-keeps.true))
+    sym (cond_yes (keeps a.blocks.bank.now a.number (a.i / 8)) _ _ (sym c.keeps.ensures ∙ c.if-keeps.true))
 
 pub returns : goal.returns
 returns c =
     let a = c.args in
-    sym (cond_no (keeps a.bank a.number (a.i / 8)) _ _ (sym c.keeps.ensures ∙ c.if-keeps.false))
+    sym (cond_no (keeps a.blocks.bank.now a.number (a.i / 8)) _ _ (sym c.keeps.ensures ∙ c.if-keeps.false))

@@ -11,18 +11,18 @@ use Rattle.bank.proofs.latching.word_kept.Goals as goal
 pub returns-then-keeps : goal.returns-then-keeps
 returns-then-keeps c =
     let a = c.args in
-    sym (cond_yes (keeps a.bank a.number a.b) _ _ (sym c.keeps.ensures ∙ c.if-keeps.true))
+    sym (cond_yes (keeps a.blocks.bank.now a.number a.b) _ _ (sym c.keeps.ensures ∙ c.if-keeps.true))
 
-pub returns-then-b-wide : goal.returns-then-b-wide
-returns-then-b-wide c =
+pub returns-then-b-count : goal.returns-then-b-count
+returns-then-b-count c =
     let a = c.args in
     sym
-    (cond_no (keeps a.bank a.number a.b) _ _ (sym c.keeps.ensures ∙ c.if-keeps.false)
-    ∙ cond_yes (ltb a.b a.bank.count) _ _ (lt-ltb a.b a.bank.count (omega (arith, c.wide.ensures.0, c.if-b-wide.true))))
+    (cond_no (keeps a.blocks.bank.now a.number a.b) _ _ (sym c.keeps.ensures ∙ c.if-keeps.false)
+    ∙ cond_yes (ltb a.b a.blocks.bank.now.count) _ _ (lt-ltb a.b a.blocks.bank.now.count (omega (arith, c.count.ensures, c.if-b-count.true))))
 
 pub returns : goal.returns
 returns c =
     let a = c.args in
     sym
-    (cond_no (keeps a.bank a.number a.b) _ _ (sym c.keeps.ensures ∙ c.if-keeps.false)
-    ∙ cond_no (ltb a.b a.bank.count) _ _ (le-ltb a.b a.bank.count (omega (arith, c.wide.ensures.0, c.if-b-wide.false))))
+    (cond_no (keeps a.blocks.bank.now a.number a.b) _ _ (sym c.keeps.ensures ∙ c.if-keeps.false)
+    ∙ cond_no (ltb a.b a.blocks.bank.now.count) _ _ (le-ltb a.b a.blocks.bank.now.count (omega (arith, c.count.ensures, c.if-b-count.false))))

@@ -7,17 +7,17 @@ use Rattle.bank.proofs.latching.LatchCases.{word_in, words-all}
 use Rattle.bank.proofs.latching.words_kept.Goals as goal
 
 pub loop-b-init : goal.loop-b-init
-loop-b-init c = let a = c.args in (omega arith, sym (puts_none (word_in a.bank a.number a.old a.words) _))
+loop-b-init c = let a = c.args in sym (puts_none (word_in a.blocks.bank.now a.number a.old.now a.words.now) _)
 
 pub loop-b-preserved : goal.loop-b-preserved
 loop-b-preserved c =
     let l = c.loop-b in
     let a = c.args in
-    (omega arith, puts-next (word_in a.bank a.number a.old a.words) l.b _ _ _ l.invariant.1 c.word_kept.ensures)
+    puts-next (word_in a.blocks.bank.now a.number a.old.now a.words.now) l.b _ _ _ l.invariant c.word_kept.ensures
 
 pub returns : goal.returns
 returns c =
     let l = c.loop-b in
     let e : l.b ≡ 8 = omega arith in
     let a = c.args in
-    rw e at l.invariant.1 ∙ puts_whole (word_in a.bank a.number a.old a.words) 8 _ refl ∙ words-all a.bank a.number a.old a.words
+    rw e at l.invariant ∙ puts_whole (word_in a.blocks.bank.now a.number a.old.now a.words.now) 8 _ refl ∙ words-all a.blocks.bank.now a.number a.old.now a.words.now

@@ -1,6 +1,6 @@
 -- `bank::stepping::lowest` meets its contract.
 -- Assumes nothing.
-use mathlib.Core.Path.{◌≡◌, ap}
+use mathlib.Core.Path.{◌≡◌, ap, ap₂}
 use Prim.Native.Nat.{ℕ, ◌*◌, ◌%◌, ◌^◌, ◌≤◌}
 use native.Mathlib.Nat.{mod-lt}
 use native.Mathlib.Omega.{arith}
@@ -13,16 +13,16 @@ nonzero_rem-result c =
     let p = pow_pos c.args.bits in
     omega arith
 
-pub overflow_cast-result-3 : goal.overflow_cast-result-3
-overflow_cast-result-3 c =
+pub overflow_cast-result-2 : goal.overflow_cast-result-2
+overflow_cast-result-2 c =
     let h : 2 ^ c.args.bits ≤ 65536 = pow_mono c.requires in
     let p = pow_pos c.args.bits in
     let e : 1 * 2 ^ c.args.bits % 2 ^ 32 ≡ 2 ^ c.args.bits = omega arith in
-    let m = mod-lt c.args.x p in
-    record { fits = omega (arith, ap (λ (k : ℕ). c.args.x % k) e) }
+    let m = mod-lt c.from.result p in
+    record { fits = omega (arith, ap (λ (k : ℕ). c.from.result % k) e) }
 
 pub returns : goal.returns
 returns c =
     let h : 2 ^ c.args.bits ≤ 65536 = pow_mono c.requires in
     let e : 1 * 2 ^ c.args.bits % 2 ^ 32 ≡ 2 ^ c.args.bits = omega arith in
-    ap (λ (m : ℕ). c.args.x % m) e
+    ap₂ (λ (y m : ℕ). y % m) c.from.ensures e

@@ -1,49 +1,52 @@
 -- `replay::calling::call_first` meets its contract.
 -- Assumes nothing.
-use mathlib.Core.Path.{sym, ◌∙◌}
+use mathlib.Core.Path.{sym, ◌∙◌, ap}
 use native.Mathlib.Omega.{arith}
-use Rattle.replay.proofs.OneCall.{made-first, older_there, older_first, admission_there, admitted-first, latched-first, stepped_first}
+use Rattle.bank_spec.specs.State.{state_of}
+use Rattle.bank_spec.specs.Calls.{latch}
+use Rattle.replay.proofs.OneCall.{same_answer, made-first, older_there, older_first, admission_there, admitted-first, latched-first, stepped_first}
 use Rattle.replay.proofs.calling.call_first.Goals as goal
 
-pub returns-then-code-eq0 : goal.returns-then-code-eq0
-returns-then-code-eq0 c =
+pub returns-in-0 : goal.returns-in-0
+returns-in-0 c =
     let a = c.args in
-    made-first a.bank a.scan a.rows.now a.list.now (sym c.byte_at-code.ensures.0 ∙ c.if-code-eq0.true)
-    c.pair_at.ensures.0 (c.make_bank.ensures a.rows.now)
+    same_answer _ _ _ c.from.ensures
+    ∙ made-first a.bank.now a.scan.now a.rows.now a.list.now (sym c.byte_at.ensures.0 ∙ c.in-0.is) c.pair_at.ensures.0 (c.make_bank.ensures a.rows.now)
 
 pub admit_coded-requires : goal.admit_coded-requires
-admit_coded-requires c =
-    (omega arith, older_there c.args.list.now c.requires (sym c.byte_at-code.ensures.0 ∙ c.if-code-eq1.true))
+admit_coded-requires c = (omega arith, older_there c.args.list.now c.requires (sym c.byte_at.ensures.0 ∙ c.in-1.is))
 
-pub returns-then-code-eq1 : goal.returns-then-code-eq1
-returns-then-code-eq1 c =
+pub returns-in-1 : goal.returns-in-1
+returns-in-1 c =
     let a = c.args in
-    older_first a.bank a.scan a.rows.now a.list.now (sym c.byte_at-code.ensures.0 ∙ c.if-code-eq1.true)
-    c.admit_coded.ensures
+    same_answer _ _ _ c.from-in-1.ensures
+    ∙ older_first a.bank.now a.scan.now a.rows.now a.list.now (sym c.byte_at.ensures.0 ∙ c.in-1.is) c.admit_coded.ensures
 
-pub returns-then-code-eq2 : goal.returns-then-code-eq2
-returns-then-code-eq2 c =
+pub returns-in-2 : goal.returns-in-2
+returns-in-2 c =
     let a = c.args in
-    latched-first a.bank a.scan a.rows.now a.list.now (sym c.byte_at-code.ensures.0 ∙ c.if-code-eq2.true)
-    (c.latch_coded.ensures a.rows.now)
+    same_answer _ _ _ c.from-in-2.ensures
+    ∙ latched-first a.bank.now a.scan.now a.rows.now a.list.now (sym c.byte_at.ensures.0 ∙ c.in-2.is)
+    (c.latch_lent.ensures a.rows.now ∙ ap (latch (state_of a.bank.now a.scan.now a.rows.now)) c.words_in.ensures)
 
-pub admit_coded-requires-then-code-eq4 : goal.admit_coded-requires-then-code-eq4
-admit_coded-requires-then-code-eq4 c =
-    (omega arith, admission_there c.args.list.now c.requires (sym c.byte_at-code.ensures.0 ∙ c.if-code-eq4.true))
+pub admit_coded-requires-in-4 : goal.admit_coded-requires-in-4
+admit_coded-requires-in-4 c = (omega arith, admission_there c.args.list.now c.requires (sym c.byte_at.ensures.0 ∙ c.in-4.is))
 
-pub returns-then-code-eq4 : goal.returns-then-code-eq4
-returns-then-code-eq4 c =
+pub returns-in-4 : goal.returns-in-4
+returns-in-4 c =
     let a = c.args in
-    admitted-first a.bank a.scan a.rows.now a.list.now (sym c.byte_at-code.ensures.0 ∙ c.if-code-eq4.true)
-    c.byte_at.ensures.0 c.byte_at-then-code-eq4.ensures.0
-    c.admit_coded-then-code-eq4.ensures
+    same_answer _ _ _ c.from-in-4.ensures
+    ∙ admitted-first a.bank.now a.scan.now a.rows.now a.list.now (sym c.byte_at.ensures.0 ∙ c.in-4.is)
+    c.byte_at-period.ensures.0 c.byte_at-phase.ensures.0 c.admit_coded-in-4.ensures
 
-pub returns : goal.returns
-returns c =
+pub returns-in_default : goal.returns-in_default
+returns-in_default c =
+    let h = c.in_default in
     let a = c.args in
-    stepped_first a.bank a.scan a.rows.now a.list.now
-    (λ p. c.if-code-eq0.false (c.byte_at-code.ensures.0 ∙ p))
-    (λ p. c.if-code-eq1.false (c.byte_at-code.ensures.0 ∙ p))
-    (λ p. c.if-code-eq2.false (c.byte_at-code.ensures.0 ∙ p))
-    (λ p. c.if-code-eq4.false (c.byte_at-code.ensures.0 ∙ p))
-    c.step_coded.ensures
+    same_answer _ _ _ (sym c.from-in_default.ensures)
+    ∙ stepped_first a.bank.now a.scan.now a.rows.now a.list.now
+    (λ p. absurd (omega arith))
+    (λ p. absurd (omega arith))
+    (λ p. absurd (omega arith))
+    (λ p. absurd (omega arith))
+    c.step_lent.ensures

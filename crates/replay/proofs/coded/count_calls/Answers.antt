@@ -1,45 +1,71 @@
 -- `replay::coded::count_calls` meets its contract.
 -- Assumes nothing.
 use mathlib.Core.Path.{◌≡◌, refl, sym, ◌∙◌, ap}
-use mathlib.Core.Bool.{false, true≢false}
-use Prim.Native.Nat.{◌<◌}
+use mathlib.Core.Bool.{true, false}
+use Prim.Native.Nat.{◌+◌, ◌≤◌}
 use native.Mathlib.Omega.{arith}
-use borrow.Author.Tests.{ne_eqb}
-use lib.ListN.{length, drop, length-drop}
-use Rattle.replay.specs.Coded.{size, readable}
-use Rattle.replay.proofs.Reading.{readable-none}
-use Rattle.replay.proofs.LoopSteps.{all_left, call-within, calls_turn, readable-turn, calls_over, readable_over}
+use lib.ListN.{length}
+use Rattle.std.specs.Prelude.{Some}
+use Rattle.replay.specs.Coded.{calls_in, readable}
+use Rattle.replay.proofs.Reading.{calls_few, calls_none, readable-none}
+use Rattle.replay.proofs.LoopSteps.{rest, size_there, size_none, within, smaller, calls_turn, readable-turn}
 use Rattle.replay.proofs.coded.count_calls.Goals as goal
 
-pub loop-at-init : goal.loop-at-init
-loop-at-init c = (omega arith, omega arith, omega arith, refl)
+pub loop-n-init : goal.loop-n-init
+loop-n-init c = (omega arith, refl)
 
-pub returns-then-n-eq0 : goal.returns-then-n-eq0
-returns-then-n-eq0 c =
-    let l = c.args.list.now in
-    let at = c.loop-at.at in
-    let s = length-drop at l in
-    let z : size (drop at l) ≡ 0 = ap size (sym (all_left l at)) ∙ sym c.call_size-n.ensures.0 ∙ c.if-n-eq0.true in
-    let no : readable l ≡ false =
-    sym c.loop-at.invariant.3 ∙ readable-none (drop at l) z ∙ ne_eqb (length (drop at l)) 0 (λ e. omega arith) in
-    (sym no, λ e. absurd (true≢false (sym e ∙ no)), omega arith)
+pub overflow_add-calls : goal.overflow_add-calls
+overflow_add-calls c =
+    let l = c.loop-n.rest.now in
+    let n = c.in-Some.n in
+    let s = size_there l c.call_size.ensures c.in-Some.is in
+    let few = ap length (calls_turn l n s.0 s.1) in
+    let all = calls_few c.args.list.now in
+    omega (arith, c.well_formed, c.loop-n.invariant.0)
 
-pub loop-at-preserved : goal.loop-at-preserved
-loop-at-preserved c =
-    let l = c.args.list.now in
-    let at = c.loop-at.at in
-    let n = c.call_size-n.result in
-    let i = c.loop-at.invariant in
-    let e = c.call_size-n.ensures.0 in
-    let more : 0 < n = omega (arith, c.if-n-eq0.false) in
-    let fit = call-within l at n i.0 e in
-    let few = ap length (calls_turn l at n e more) in
-    (omega arith, omega arith, omega arith, sym (readable-turn l at n e more) ∙ i.3)
+pub slice_bounds-rest-count : goal.slice_bounds-rest-count
+slice_bounds-rest-count c =
+    let l = c.loop-n.rest.now in
+    let n = c.in-Some.n in
+    let s = size_there l c.call_size.ensures c.in-Some.is in
+    within l n s.0 s.1
+
+pub slice_bounds-rest-start : goal.slice_bounds-rest-start
+slice_bounds-rest-start c =
+    let l = c.loop-n.rest.now in
+    let n = c.in-Some.n in
+    let s = size_there l c.call_size.ensures c.in-Some.is in
+    let inside : n ≤ length l = within l n s.0 s.1 in
+    inside
+
+pub loop-n-smaller : goal.loop-n-smaller
+loop-n-smaller c =
+    let l = c.loop-n.rest.now in
+    let n = c.in-Some.n in
+    let s = size_there l c.call_size.ensures c.in-Some.is in
+    smaller l n s.0 s.1
+
+pub loop-n-preserved : goal.loop-n-preserved
+loop-n-preserved c =
+    let l = c.loop-n.rest.now in
+    let n = c.in-Some.n in
+    let s = size_there l c.call_size.ensures c.in-Some.is in
+    let few = ap length (calls_turn l n s.0 s.1) in
+    let sum : c.loop-n.calls + 1 + length (calls_in (rest l n)) ≡ length (calls_in c.args.list.now) = omega (arith, few, c.loop-n.invariant.0) in
+    (sum, sym (readable-turn l n s.0 s.1) ∙ c.loop-n.invariant.1)
+
+pub returns-then-is_empty : goal.returns-then-is_empty
+returns-then-is_empty c =
+    let l = c.loop-n.rest.now in
+    let i = c.loop-n.invariant in
+    let z = size_none l c.call_size.ensures c.in_default.is in
+    let whole : readable c.args.list.now ≡ true = sym i.1 ∙ readable-none l z ∙ sym c.is_empty.ensures ∙ c.if-is_empty.true in
+    let n : c.loop-n.calls ≡ length (calls_in c.args.list.now) = omega (arith, i.0, ap length (calls_none l z)) in
+    rw whole (ap Some n)
 
 pub returns : goal.returns
 returns c =
-    let l = c.args.list.now in
-    let i = c.loop-at.invariant in
-    let at = c.loop-at.at in
-    let none = ap length (calls_over l at c.loop-at-test.false) in
-    (sym (sym i.3 ∙ readable_over l at c.loop-at-test.false), λ r. omega arith, omega arith)
+    let l = c.loop-n.rest.now in
+    let z = size_none l c.call_size.ensures c.in_default.is in
+    let broken : readable c.args.list.now ≡ false = sym c.loop-n.invariant.1 ∙ readable-none l z ∙ sym c.is_empty.ensures ∙ c.if-is_empty.false in
+    rw broken

@@ -1,15 +1,13 @@
 -- `replay::coded::count_calls` meets its contract.
 -- Assumes nothing.
 use mathlib.Core.Path.{◌≡◌}
-use Prim.Native.Nat.{◌+◌, ◌-◌, ◌≤◌}
-use lib.ListN.{length, drop}
+use Prim.Native.Nat.{◌+◌}
+use lib.ListN.{length}
 use Rattle.replay.specs.Coded.{calls_in, readable}
 use Rattle.replay.proofs.coded.count_calls.Given as goal
 
-abbrev pub invariant-loop-at : goal.invariant-loop-at
-invariant-loop-at l =
-    (l.at ≤ length l.list) × (l.calls ≤ l.at) × (l.calls + length (calls_in (drop l.at l.list)) ≡ length (calls_in l.list))
-    × (readable (drop l.at l.list) ≡ readable l.list)
+abbrev pub invariant-loop-n : goal.invariant-loop-n
+invariant-loop-n l = (l.calls + length (calls_in l.rest) ≡ length (calls_in l.list)) × (readable l.rest ≡ readable l.list)
 
-abbrev pub decreases-loop-at : goal.decreases-loop-at
-decreases-loop-at l = length l.list - l.at
+abbrev pub decreases-loop-n : goal.decreases-loop-n
+decreases-loop-n l = length l.rest

@@ -1,55 +1,51 @@
 -- `replay::coded::said_size` meets its contract.
 -- Assumes nothing.
 use mathlib.Core.Path.{◌≡◌}
-use lib.ListN.{get_or}
 use native.Mathlib.Omega.{arith}
 use borrow.Author.Tests.{ne_eqb}
+use lib.ListN.{get_or}
 use Rattle.replay.specs.Coded.{said_size}
 use Rattle.replay.proofs.coded.said_size.Goals as goal
 
-pub returns-then-code-eq0 : goal.returns-then-code-eq0
+pub returns-in-0 : goal.returns-in-0
 unfolding said_size
-returns-then-code-eq0 c =
-    let l = c.args.list.now in
-    let e : get_or l 0 0 ≡ 0 = omega arith in
+returns-in-0 c =
+    let e : get_or c.args.list.now 0 0 ≡ 0 = omega arith in
     rw e
 
-pub returns-then-code-eq1 : goal.returns-then-code-eq1
+pub returns-in-1 : goal.returns-in-1
 unfolding said_size
-returns-then-code-eq1 c =
-    let l = c.args.list.now in
-    let e : get_or l 0 0 ≡ 1 = omega arith in
+returns-in-1 c =
+    let e : get_or c.args.list.now 0 0 ≡ 1 = omega arith in
     rw e (omega arith)
 
-pub returns-then-code-eq2 : goal.returns-then-code-eq2
+pub returns-in-2 : goal.returns-in-2
 unfolding said_size
-returns-then-code-eq2 c =
-    let l = c.args.list.now in
-    let e : get_or l 0 0 ≡ 2 = omega arith in
+returns-in-2 c =
+    let e : get_or c.args.list.now 0 0 ≡ 2 = omega arith in
     rw e
 
-pub returns-then-code-eq3 : goal.returns-then-code-eq3
+pub returns-in-3 : goal.returns-in-3
 unfolding said_size
-returns-then-code-eq3 c =
-    let l = c.args.list.now in
-    let e : get_or l 0 0 ≡ 3 = omega arith in
+returns-in-3 c =
+    let e : get_or c.args.list.now 0 0 ≡ 3 = omega arith in
     rw e
 
-pub returns-then-code-eq4 : goal.returns-then-code-eq4
+pub returns-in-4 : goal.returns-in-4
 unfolding said_size
-returns-then-code-eq4 c =
-    let l = c.args.list.now in
-    let e : get_or l 0 0 ≡ 4 = omega arith in
+returns-in-4 c =
+    let e : get_or c.args.list.now 0 0 ≡ 4 = omega arith in
     rw e (omega arith)
 
-pub returns : goal.returns
+pub returns-in_default : goal.returns-in_default
 unfolding said_size
-returns c =
+returns-in_default c =
+    let h = c.in_default in
     let x = get_or c.args.list.now 0 0 in
     rw (
-      ne_eqb x 0 (λ e. omega (arith, c.if-code-eq0.false)),
-      ne_eqb x 1 (λ e. omega (arith, c.if-code-eq1.false)),
-      ne_eqb x 2 (λ e. omega (arith, c.if-code-eq2.false)),
-      ne_eqb x 3 (λ e. omega (arith, c.if-code-eq3.false)),
-      ne_eqb x 4 (λ e. omega (arith, c.if-code-eq4.false)),
+      ne_eqb x 0 (λ e. absurd (omega arith)),
+      ne_eqb x 1 (λ e. absurd (omega arith)),
+      ne_eqb x 2 (λ e. absurd (omega arith)),
+      ne_eqb x 3 (λ e. absurd (omega arith)),
+      ne_eqb x 4 (λ e. absurd (omega arith)),
     )

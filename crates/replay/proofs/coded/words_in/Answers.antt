@@ -9,16 +9,16 @@ use Rattle.replay.specs.Coded.{pair}
 use Rattle.replay.proofs.coded.words_in.Goals as goal
 
 pub loop-b-init : goal.loop-b-init
-loop-b-init c = (omega arith, refl)
+loop-b-init c = refl
 
 pub loop-b-preserved : goal.loop-b-preserved
 loop-b-preserved c =
     let l = c.loop-b in
     let a = c.args in
-    (omega arith, rw l.invariant.1 (filled_more (λ k. pair a.list.now (1 + 2 * k)) l.b _ _ c.word_at.ensures (omega arith)))
+    rw l.invariant (filled_more (λ k. pair a.list.now (1 + 2 * k)) l.b _ _ c.word_at.ensures (omega arith))
 
 pub returns : goal.returns
 returns c =
     let l = c.loop-b in
     let e : l.b ≡ 8 = omega arith in
-    rw e at l.invariant.1 ∙ append-nil _
+    rw e at l.invariant ∙ append-nil _

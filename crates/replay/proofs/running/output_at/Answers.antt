@@ -8,8 +8,8 @@ use borrow.Author.Tests.{lt-ltb, le-ltb}
 use native.Mathlib.Omega.{arith}
 use Rattle.replay.proofs.running.output_at.Goals as goal
 
-pub returns-then-i-count : goal.returns-then-i-count
-returns-then-i-count c =
+pub returns-then-i-from : goal.returns-then-i-from
+returns-then-i-from c =
     let a = c.args in
     sym (cond_yes (ltb a.i (8 * a.count)) _ _ (lt-ltb a.i (8 * a.count) (omega arith)))
 

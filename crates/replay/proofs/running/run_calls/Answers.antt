@@ -1,97 +1,82 @@
 -- `replay::running::run_calls` meets its contract.
 -- Assumes nothing.
-use mathlib.Core.Path.{◌≡◌, refl, sym, ◌∙◌, ap}
-use Prim.Native.Nat.{◌<◌, ◌+◌, ◌-◌}
+use mathlib.Core.Path.{◌≡◌, refl, sym, ◌∙◌, ap, ap₂}
+use Prim.Native.Nat.{◌+◌, ◌*◌, ◌≤◌}
 use native.Mathlib.Omega.{arith}
-use lib.ListN.{length}
 use borrow.Author.Rules.{rules}
-use Rattle.bank_spec.specs.State.{State}
+use lib.ListN.{length}
+use Rattle.bank_spec.specs.declared.Bank.{Bank}
+use Rattle.bank_spec.specs.declared.Scan.{Scan}
 use Rattle.bank_spec.specs.State.{state_of}
 use Rattle.replay.specs.Coded.{calls_in}
+use Rattle.replay.specs.Replay.{call_answer}
 use Rattle.replay.proofs.Traces.{Ran, ran, ran_whole}
-use Rattle.replay.proofs.LoopSteps.{started_none, call-within, some_left, readable-turn, entry-room, rest-room, run-turn, run_over}
+use Rattle.replay.proofs.LoopSteps.{rest, size_there, size_none, within, smaller, readable-turn, entry-room, rest-room, run-turn, run_over}
 use Rattle.replay.proofs.running.run_calls.Goals as goal
 
-pub loop-at-init : goal.loop-at-init
-loop-at-init c =
+pub loop-n-init : goal.loop-n-init
+loop-n-init c =
     let l = c.args.list.now in
     let tr = c.args.trace.now in
-    (omega arith, c.requires.0, omega arith, refl, refl, ap (λ (x : State). ran x (calls_in l) 0 tr) (started_none _ c.start-made.ensures c.args.rows.now))
-
-pub call_first-called-requires : goal.call_first-called-requires
-call_first-called-requires c =
-    let l = c.args.list.now in
-    let t = c.loop-at in
-    some_left l t.at c.loop-at-test.true t.invariant.1
+    (c.requires.0, omega arith, refl, refl, ap₂ (λ (k : Bank) (s : Scan). ran (state_of k s c.args.rows.now) (calls_in l) 0 tr) c.empty_bank-bank.ensures c.at_rest-scan.ensures)
 
 pub write_entry-requires : goal.write_entry-requires
 write_entry-requires c =
-    let l = c.args.list.now in
-    let t = c.loop-at in
-    let n = c.call_size-n in
-    let more = some_left l t.at c.loop-at-test.true t.invariant.1 in
-    entry-room l t.at n.result n.ensures.0 (omega (arith, n.ensures.0)) t.written (length t.trace) t.invariant.2
+    let l = c.loop-n.rest.now in
+    let n = c.in-Some.n in
+    let s = size_there l c.call_size.ensures c.in-Some.is in
+    entry-room l n s.0 s.1 c.loop-n.written (length c.loop-n.trace) c.loop-n.invariant.1
 
-pub overflow_add-at : goal.overflow_add-at
-overflow_add-at c =
-    let t = c.loop-at in
-    let n = c.call_size-n in
-    omega (arith, c.well_formed, call-within c.args.list.now t.at n.result t.invariant.0 n.ensures.0)
+pub slice_bounds-rest-count : goal.slice_bounds-rest-count
+slice_bounds-rest-count c =
+    let l = c.loop-n.rest.now in
+    let n = c.in-Some.n in
+    let s = size_there l c.call_size.ensures c.in-Some.is in
+    within l n s.0 s.1
 
-pub overflow_add-written : goal.overflow_add-written
-overflow_add-written c =
-    let l = c.args.list.now in
-    let t = c.loop-at in
-    let n = c.call_size-n in
-    let more = some_left l t.at c.loop-at-test.true t.invariant.1 in
-    let room = entry-room l t.at n.result n.ensures.0 (omega (arith, n.ensures.0)) t.written (length t.trace) t.invariant.2 in
-    omega (arith, c.well_formed, t.invariant.4)
+pub slice_bounds-rest-start : goal.slice_bounds-rest-start
+slice_bounds-rest-start c =
+    let l = c.loop-n.rest.now in
+    let n = c.in-Some.n in
+    let s = size_there l c.call_size.ensures c.in-Some.is in
+    let inside : n ≤ length l = within l n s.0 s.1 in
+    inside
 
-pub loop-at-smaller : goal.loop-at-smaller
-loop-at-smaller c =
-    let l = c.args.list.now in
-    let t = c.loop-at in
-    let n = c.call_size-n in
-    let more = some_left l t.at c.loop-at-test.true t.invariant.1 in
-    let less : length l - (t.at + n.result) < length l - t.at = omega (arith, n.ensures.0, c.loop-at-test.true) in
-    less
+pub loop-n-smaller : goal.loop-n-smaller
+loop-n-smaller c =
+    let l = c.loop-n.rest.now in
+    let n = c.in-Some.n in
+    let s = size_there l c.call_size.ensures c.in-Some.is in
+    smaller l n s.0 s.1
 
-pub loop-at-preserved : goal.loop-at-preserved
-loop-at-preserved c =
-    let l = c.args.list.now in
-    let t = c.loop-at in
-    let n = c.call_size-n in
-    let r = c.call_first-called in
-    let w = c.write_entry in
+pub loop-n-preserved : goal.loop-n-preserved
+loop-n-preserved c =
+    let l = c.loop-n.rest.now in
+    let n = c.in-Some.n in
+    let s = size_there l c.call_size.ensures c.in-Some.is in
+    let t = c.loop-n in
+    let r = c.call_first-answer in
     let i = t.invariant in
-    let left = some_left l t.at c.loop-at-test.true i.1 in
-    let more : 0 < n.result = omega (arith, n.ensures.0) in
-    let room = rest-room l t.at n.result n.ensures.0 more t.written (length t.trace) i.2 in
+    let room = rest-room l n s.0 s.1 t.written (length t.trace) i.1 in
     let same : length c.write_entry.new.trace ≡ length t.trace = search rules in
     let kept : length r.new.rows ≡ length t.rows = search rules in
-    -- a call gives back 64 outputs
-    let all : length r.result.scan.outputs ≡ 64 = search rules in (
-      call-within l t.at n.result i.0 n.ensures.0,
-      sym (readable-turn l t.at n.result n.ensures.0 more) ∙ i.1,
-      omega arith,
-      kept ∙ i.3,
-      same ∙ i.4,
+    let fits : t.written + 68 + 68 * length (calls_in (rest l n)) ≤ length c.write_entry.new.trace = omega (arith, room, same) in
+    -- a call leaves 64 outputs
+    let all = c.write_entry.ensures.all_there in (
+      sym (readable-turn l n s.0 s.1) ∙ i.0,
+      fits,
+      kept ∙ i.2,
+      same ∙ i.3,
       sym
-          (run-turn l t.at n.result n.ensures.0 more t.bank t.scan t.rows r.result.kind r.result.first r.result.second
-          r.result.bank r.result.scan _ r.ensures all t.written t.trace _ w.ensures)
-          ∙ i.5,
+          (run-turn l n s.0 s.1 t.bank t.scan t.rows (call_answer r.result) r.new.bank r.new.scan r.new.rows r.ensures all t.written t.trace _ c.write_entry.ensures.entry)
+          ∙ i.4,
     )
-
-pub shape_of-rows : goal.shape_of-rows
-shape_of-rows c = c.loop-at.invariant.3
-
-pub shape_of-trace : goal.shape_of-trace
-shape_of-trace c = c.loop-at.invariant.4
 
 pub returns : goal.returns
 returns c =
-    let l = c.args.list.now in
-    let t = c.loop-at in
-    let e = sym (run_over l t.at c.loop-at-test.false (state_of t.bank t.scan t.rows) t.written t.trace) ∙ t.invariant.5
-    ∙ ran_whole c.args.rows.now (calls_in l) c.args.trace.now c.requires.1 in
+    let l = c.loop-n.rest.now in
+    let t = c.loop-n in
+    let z = size_none l c.call_size.ensures c.in_default.is in
+    let e = sym (run_over l z (state_of t.bank t.scan t.rows) t.written t.trace) ∙ t.invariant.4
+    ∙ ran_whole c.args.rows.now (calls_in c.args.list.now) c.args.trace.now c.requires.1 in
     record { rows_after = ap (λ (x : Ran). x.rows) e; trace_after = ap (λ (x : Ran). x.trace) e }

@@ -7,6 +7,8 @@ use native.Mathlib.Omega.{arith}
 use lib.Dec.{ltb}
 use lib.ListN.{length, get_or, length-set}
 use Rattle.laws.proofs.Puts.{length-puts_at}
+use Rattle.replay.specs.Entries.{kind_of, first_of, second_of}
+use Rattle.replay.specs.Replay.{call_answer}
 use Rattle.replay.proofs.Traces.{entry-stored}
 use Rattle.replay.proofs.running.write_entry.Goals as goal
 
@@ -25,9 +27,9 @@ write_outputs-requires c = simp length-set (omega arith)
 pub shape_of-trace : goal.shape_of-trace
 shape_of-trace c = ap length c.write_outputs.ensures ∙ simp (length-puts_at, length-set)
 
-pub returns : goal.returns
-returns c =
-    let r = c.args.called in
-    c.write_outputs.ensures
-    ∙ entry-stored c.args.trace.now c.args.at r.kind r.first r.second r.bank.count
-    (λ i. cond (ltb i (8 * r.bank.count)) (get_or r.scan.outputs i 0) 2) c.requires
+pub returns-clause-entry : goal.returns-clause-entry
+returns-clause-entry c =
+    let a = call_answer c.args.answer in
+    (rw c.bytes.ensures at c.write_outputs.ensures)
+    ∙ entry-stored c.args.trace.now c.args.at (kind_of a) (first_of a) (second_of a) c.args.count
+    (λ i. cond (ltb i (8 * c.args.count)) (get_or c.args.outputs.now i 0) 2) c.requires

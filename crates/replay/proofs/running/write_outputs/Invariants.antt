@@ -2,7 +2,7 @@
 -- Assumes nothing.
 use mathlib.Core.Path.{◌≡◌}
 use mathlib.Core.Bool.{cond}
-use Prim.Native.Nat.{ℕ, ◌≤◌, ◌-◌, ◌*◌}
+use Prim.Native.Nat.{ℕ, ◌*◌}
 use mathlib.Core.List.{List}
 use lib.Dec.{ltb}
 use lib.ListN.{get_or}
@@ -13,7 +13,4 @@ abbrev pub byte_of : ℕ → List ℕ → ℕ → ℕ
 byte_of count outputs i = cond (ltb i (8 * count)) (get_or outputs i 0) 2
 
 abbrev pub invariant-loop-i : goal.invariant-loop-i
-invariant-loop-i l = (l.i ≤ 64) × (l.trace ≡ puts_at l.at l.i (byte_of l.count l.outputs) l.initial.trace)
-
-abbrev pub decreases-loop-i : goal.decreases-loop-i
-decreases-loop-i l = 64 - l.i
+invariant-loop-i l = l.trace ≡ puts_at l.at l.i (byte_of l.count l.outputs) l.initial.trace

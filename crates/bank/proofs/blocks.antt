@@ -1,0 +1,2 @@
+-- Laws of `src/blocks.rt`.
+pub mod CountedCells

@@ -1,2 +1,0 @@
--- Laws of `src/due_blocks.rt`.
-pub mod DueTests

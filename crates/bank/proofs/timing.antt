@@ -1,0 +1,2 @@
+-- Laws of `src/timing.rt`.
+pub mod DueTests
