@@ -2,5 +2,6 @@
 pub mod BytesBack
 pub mod LineBack
 pub mod LineTidied
+pub mod Coded
 pub mod Promises
 pub mod WriteLaws

@@ -63,9 +63,10 @@ module _ (A B : List ℕ) (first : (i : ℕ) → i < length A → 33 ≤ get_or 
   words_back p q =
       let l = A ++ 32 ∷ B in
       let front : take (length A) l ≡ A = take_at A (32 ∷ B) (length A) refl in
-      let older = older_good l B (length A) (sym space_at) (sym (behind 32 A B)) (and_join (ap is_bytes front ∙ p) q) in
+      let first = sym front ∙ ap (λ (k : ℕ). take k l) (sym space_at) in
+      let second = sym (behind 32 A B) ∙ ap (λ (k : ℕ). drop (k + 1) l) (sym space_at) in
+      let older = older_good l A B first second (and_join p q) in
       admit_older l (ap (λ (x : Line). x.good) older) ∙ older
-      ∙ ap (λ (x : List ℕ). call (admission (bytes_of x) (bytes_of B))) front
 
 pub line_admits : (l : List ℕ) → line_in (admit_word ++ l) ≡ admit_line l
 unfolding begins
@@ -124,5 +125,5 @@ module _ (R Q : List ℕ) (are-R : AreBytes R) (are-Q : AreBytes Q) where
         let size : 6 + length R + length Q ≡ length (lines_in k (block_line R Q)).code =
         sym (length-admission R Q) ∙ ap (λ (x : Text). length x.code) (sym t) in
         sym
-        (read_whole (block_line R Q) code k 0 (6 + length R + length Q) 0 (written code 0 (admission R Q)) room
-        (refl, size, ap (λ (x : Text). x.bad_line) (sym t)) (ap (λ (x : Text). written code 0 x.code) (sym t)))
+        (read_whole (block_line R Q) code k (6 + length R + length Q) 0 (written code 0 (admission R Q)) room
+        (size, ap (λ (x : Text). x.bad_line) (sym t)) (ap (λ (x : Text). written code 0 x.code) (sym t)))

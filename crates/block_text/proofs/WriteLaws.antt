@@ -3,38 +3,26 @@
 use mathlib.Core.Path.{◌≡◌, refl, sym, ◌∙◌, ap, ap₂}
 use mathlib.Core.Bool.{true, false, ◌||◌}
 use mathlib.Core.List.{List, [], ◌∷◌, ◌++◌, append_assoc}
-use Prim.Native.Nat.{ℕ, ◌+◌, ◌*◌, ◌/◌, ◌%◌, ◌<◌, ◌≤◌}
+use Prim.Native.Nat.{ℕ, ◌+◌, ◌<◌, ◌≤◌}
 use native.Mathlib.Omega.{arith}
-use lib.Dec.{eqb, ltb}
-use lib.ListN.{length, get_or, set, take, length-append}
-use borrow.Author.Tests.{eq-eqb, ne_eqb, lt-ltb, le-ltb, ltb-false}
-use Rattle.laws.specs.Lists.{written, puts_at}
+use lib.Dec.{ltb}
+use lib.ListN.{length, set, take, length-append}
+use borrow.Author.Tests.{lt-ltb, le-ltb, ltb-false}
+use Rattle.laws.specs.Lists.{written}
 use Rattle.laws.proofs.Cases.{cond_yes, cond_no, or_split}
 use Rattle.laws.proofs.Filled.{length-written, written_front}
+use Rattle.std.specs.Prelude.{Ok, Err}
+use Rattle.refusals.specs.declared.Refusal.TheVariants.{RowsShort, NotFormed}
+use Rattle.block_text.specs.Given.{line_given}
 use Rattle.call_text.specs.Lines.{admit_word}
-use Rattle.call_text.proofs.CallLaws.{set-written, puts-written, written_on}
-use Rattle.block_text.specs.BlockLine.{hex_sign, digit_at, sign_at, bytes_text, block_line, write_line, ReadsBack}
-use Rattle.block_text.proofs.BytesBack.{AreBytes, text-none, text-some}
+use Rattle.call_text.proofs.CallLaws.{set-written, written_on}
+use Rattle.block_text.specs.BlockLine.{bytes_text, block_line, write_line, ReadsBack}
+use Rattle.block_text.proofs.BytesBack.{AreBytes, text-none}
 use Rattle.block_text.proofs.LineBack.{read_back}
-
--- the sign of a digit: the high one of a byte, and the low one
-pub sign_even : (R : List ℕ) (i b s : ℕ) → i % 2 ≡ 0 → b ≡ get_or R (i / 2) 0 → s ≡ hex_sign (b / 16) → s ≡ sign_at R i
-unfolding sign_at digit_at
-sign_even R i b s e eb es =
-    es ∙ ap hex_sign (ap (λ (x : ℕ). x / 16) eb ∙ sym (cond_yes (eqb (i % 2) 0) _ _ (eq-eqb (i % 2) 0 e)))
-
-pub sign_odd : (R : List ℕ) (i b s : ℕ) → (i % 2 ≡ 0 → ⊥) → b ≡ get_or R (i / 2) 0 → s ≡ hex_sign (b % 16) → s ≡ sign_at R i
-unfolding sign_at digit_at
-sign_odd R i b s e eb es =
-    es ∙ ap hex_sign (ap (λ (x : ℕ). x % 16) eb ∙ sym (cond_no (eqb (i % 2) 0) _ _ (ne_eqb (i % 2) 0 e)))
 
 -- the text of bytes
 pub put_none : (R old : List ℕ) (at : ℕ) → length R ≡ 0 → at < length old → set old at 45 ≡ written old at (bytes_text R)
 put_none R old at e h = set-written old at 45 h ∙ ap (λ (s : List ℕ). written old at s) (sym (text-none R e))
-
-pub put_some : (R old new : List ℕ) (at : ℕ) → (length R ≡ 0 → ⊥) → at + 2 * length R ≤ length old → new ≡ puts_at at (2 * length R) (sign_at R) old
-    → new ≡ written old at (bytes_text R)
-put_some R old new at e h w = w ∙ puts-written (sign_at R) at (2 * length R) old h ∙ ap (λ (s : List ℕ). written old at s) (sym (text-some R e))
 
 -- the line from its texts
 pub put_line : (A B t₀ t₁ t₂ t₃ : List ℕ) (r q : ℕ) → r ≡ length A → q ≡ length B → 8 + length A + length B ≤ length t₀
@@ -67,11 +55,11 @@ module _ (R Q old : List ℕ) where
   few : length R ≤ 65535 → length Q ≤ 65535 → (ltb 65535 (length R) || ltb 65535 (length Q)) ≡ false
   few r q = ap₂ ◌||◌ (le-ltb 65535 (length R) r) (le-ltb 65535 (length Q) q)
 
-  pub write_many : (ltb 65535 (length R) || ltb 65535 (length Q)) ≡ true → record { refusal = 12; size = 0; text = old } ≡ write_line R Q old
+  pub write_many : (ltb 65535 (length R) || ltb 65535 (length Q)) ≡ true → line_given (Err NotFormed) old ≡ write_line R Q old
   unfolding write_line
   write_many h = sym (cond_yes (ltb 65535 (length R) || ltb 65535 (length Q)) _ _ h)
 
-  pub write-short : length R ≤ 65535 → length Q ≤ 65535 → length old < length (block_line R Q) → record { refusal = 11; size = 0; text = old } ≡ write_line R Q old
+  pub write-short : length R ≤ 65535 → length Q ≤ 65535 → length old < length (block_line R Q) → line_given (Err RowsShort) old ≡ write_line R Q old
   unfolding write_line
   write-short r q h =
       sym
@@ -79,7 +67,7 @@ module _ (R Q old : List ℕ) where
       ∙ cond_yes (ltb (length old) (length (block_line R Q))) _ _ (lt-ltb (length old) (length (block_line R Q)) h))
 
   pub write-whole : (size : ℕ) (new : List ℕ) → length R ≤ 65535 → length Q ≤ 65535 → size ≡ length (block_line R Q) → length (block_line R Q) ≤ length old
-      → new ≡ written old 0 (block_line R Q) → record { refusal = 0; size = size; text = new } ≡ write_line R Q old
+      → new ≡ written old 0 (block_line R Q) → line_given (Ok size) new ≡ write_line R Q old
   unfolding write_line
   write-whole size new r q e h w =
       rw (e, w)

@@ -4,37 +4,26 @@
 
 mod lines;
 
-ghost use Rattle.std.specs.Prelude.{◌≡◌, take};
+ghost use Rattle.std.specs.Prelude.{◌≡◌, take, IfOk};
 ghost use Rattle.block_text.specs.BlockLine.{write_line, ReadsBack};
+ghost use Rattle.block_text.specs.Given.{line_given};
 
 use crate::lines::{put_line, text_size};
+use refusals::Refusal;
 
-// What writing a line answers: 12 where there are too many bytes, 11 where the memory is too short, and how long the line is.
-#[derive(Clone, Copy)]
-pub struct LineWritten {
-    pub refusal: u8,
-    pub size: usize,
-}
-
-// Writes the line that admits these records and rows at the front of the text. Read back, it gives exactly these.
-pub fn write_line(records: &[u8], rows: &[u8], text: &mut [u8]) -> LineWritten
-    ensures text_after { record { refusal = result.refusal; size = result.size; text = text.new }
-        ≡ write_line records.now rows.now text.old }
-    ensures reads_back { result.refusal ≡ 0 → ReadsBack (take result.size text.new) records.now rows.now }
+// Writes the line that admits these records and rows at the front of the text, which must be long enough; how long the line is. Read back, it gives
+// exactly these.
+pub fn write_line(records: &[u8], rows: &[u8], text: &mut [u8]) -> Result<usize, Refusal>
+    ensures text_after { line_given result text.new ≡ write_line records.now rows.now text.old }
+    ensures reads_back { IfOk result (λ size. ReadsBack (take size text.new) records.now rows.now) }
 {
     if (65535 < records.len()) | (65535 < rows.len()) {
-        return LineWritten {
-            refusal: 12,
-            size: 0,
-        };
+        return Err(Refusal::NotFormed);
     }
     let size = 8 + text_size(records) + text_size(rows);
     if text.len() < size {
-        return LineWritten {
-            refusal: 11,
-            size: 0,
-        };
+        return Err(Refusal::RowsShort);
     }
     put_line(records, rows, text);
-    LineWritten { refusal: 0, size }
+    Ok(size)
 }

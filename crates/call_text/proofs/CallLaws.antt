@@ -1,22 +1,26 @@
 -- Laws of what the words of a call are read as, and how the parts of the call come to be written.
 -- Assumes nothing.
 use mathlib.Core.Path.{◌≡◌, refl, sym, ◌∙◌, ap, ap₂}
-use mathlib.Core.Bool.{Bool, true, false, ◌&&◌, and-false, and_assoc}
-use mathlib.Core.List.{List, [], ◌∷◌, ◌++◌}
-use Prim.Native.Nat.{ℕ, ◌+◌, ◌-◌, ◌*◌, ◌/◌, ◌%◌, ◌<◌, ◌≤◌, min}
+use mathlib.Core.Bool.{Bool, true, false, cond, not, ◌&&◌, ◌||◌, and-false, and_assoc}
+use mathlib.Core.List.{List, [], ◌∷◌, ◌++◌, append_assoc}
+use Prim.Native.Nat.{ℕ, ◌+◌, ◌-◌, ◌*◌, ◌/◌, ◌%◌, ◌<◌, ◌≤◌}
 use native.Mathlib.Numerals.{add-one}
 use native.Mathlib.Omega.{arith}
-use lib.Dec.{eqb, leb}
-use lib.ListN.{length, get_or, set, take, drop, length-set, length-append, length-take, length-drop, drop_of_length-le}
+use lib.Dec.{eqb, leb, ltb}
+use lib.ListN.{length, get_or, set, take, drop, length-set, length-append, length-take, length-drop}
 use lib.Seq.{take_all, drop-drop}
 use borrow.Author.Tests.{eqb-true, leb-true, eq-eqb, ne_eqb}
 use Rattle.laws.specs.Tests.{every, least, within}
 use Rattle.laws.specs.Lists.{tab, written, puts_at}
-use Rattle.laws.proofs.Cases.{by_test, cond_yes, cond_no, and_split}
+use Rattle.laws.proofs.Cases.{by_test, cond_yes, cond_no, and_split, and_left_no}
+use Rattle.std.proofs.lemmas.Bool.Decides.{nat_tests}
 use Rattle.laws.proofs.Lists.{length-tab}
 use Rattle.laws.proofs.Filled.{length-written, written-sets, written_none, written_next}
-use Rattle.laws.proofs.Parts.{rest-ends}
 use Rattle.laws.proofs.Puts.{puts_at-sets}
+use borrow.Rule.Slice.PartMut.{put_mid}
+use Rattle.std.specs.Prelude.{Option, Some, None, is_some}
+use Rattle.std.proofs.lemmas.Option.{none-some, same_Some}
+use Rattle.call_text.specs.Given.{line_size}
 use Rattle.call_text.specs.Words.{is_digit, decimal, is_number, is_hex, hex_byte, is_bytes, bytes_of}
 use Rattle.call_text.specs.Lines.{Line, line_of, low, high, bank_line, word_place, is_word_byte, latch_line, space_in, admission, older_line, timed_admission, is_byte_number, timed_line, admit_line}
 use Rattle.laws.proofs.Tests.{within_has}
@@ -34,6 +38,11 @@ pub written_on : (old mid new a b : List ℕ) (at next : ℕ) → next ≡ at + 
 written_on old mid new a b at next e h first second =
     second ∙ ap₂ (λ (l : List ℕ) (k : ℕ). written l k b) first e ∙ written_next old at a b (omega arith)
 
+-- a part of a list written over
+pub mid_written : (a k : ℕ) (l s : List ℕ) → k ≡ length s → put_mid a k l s ≡ written l a s
+mid_written a k l s e =
+    ap (λ (t : List ℕ). take a l ++ (s ++ t)) (drop-drop k a l ∙ ap (λ (n : ℕ). drop (a + n) l) e) ∙ sym (append_assoc (take a l) s (drop (a + length s) l))
+
 pub put_two : (l : List ℕ) (at x y : ℕ) → at + 2 ≤ length l → set (set l at x) (at + 1) y ≡ written l at (x ∷ y ∷ [])
 put_two l at x y h = ap (λ (k : ℕ). set (set l at x) k y) (add-one at) ∙ sym (written-sets l at (x ∷ y ∷ []) (omega arith))
 
@@ -48,6 +57,15 @@ rest-long a l = ap length (rest_all a l) ∙ length-drop a l
 pub and_no : (a b : Bool) → b ≡ false → (a && b) ≡ false
 and_no a b e = ap (λ (x : Bool). a && x) e ∙ and-false a
 
+-- what is answered only where a test holds
+pub some_test : {A : Type 0} (b : Bool) (v n : A) → Some n ≡ cond b (Some v) None → (b ≡ true) × (n ≡ v)
+some_test true v n e = (refl, same_Some n v e)
+some_test false v n e = absurd (none-some n (sym e))
+
+pub none_test : {A : Type 0} (b : Bool) (v : A) → None ≡ cond b (Some v) None → b ≡ false
+none_test true v e = absurd (none-some v e)
+none_test false v e = refl
+
 -- a line that can be read, and one that can't be
 abbrev pub no_call : Line
 no_call = record { good = false; code = [] }
@@ -61,16 +79,19 @@ line_no b code e = rw e
 line_yes : (b : Bool) (code : List ℕ) → b ≡ true → line_of b code ≡ call code
 line_yes b code e = rw e
 
-pub bad_line_lem : (x : Line) (old : List ℕ) (at : ℕ) → x ≡ no_call → ((false ≡ x.good) × (0 ≡ length x.code)) × (old ≡ written old at x.code)
-bad_line_lem x old at e = rw e ((refl, refl), sym (written_none old at))
+pub bad_line_lem : (x : Line) (old : List ℕ) (at : ℕ) → x ≡ no_call → (None ≡ line_size x) × (old ≡ written old at x.code)
+bad_line_lem x old at e = rw e (refl, sym (written_none old at))
 
 pub good-line : (x : Line) (code old new : List ℕ) (at n : ℕ) → x ≡ call code → n ≡ length code → new ≡ written old at code
-    → ((true ≡ x.good) × (n ≡ length x.code)) × (new ≡ written old at x.code)
-good-line x code old new at n e size wrote = rw e ((refl, size), wrote)
+    → (Some n ≡ line_size x) × (new ≡ written old at x.code)
+good-line x code old new at n e size wrote = rw e (ap Some size, wrote)
 
-pub same_line_lem : (x y : Line) (good : Bool) (n : ℕ) (old new : List ℕ) (at : ℕ) → x ≡ y
-    → ((good ≡ y.good) × (n ≡ length y.code)) × (new ≡ written old at y.code) → ((good ≡ x.good) × (n ≡ length x.code)) × (new ≡ written old at x.code)
-same_line_lem x y good n old new at e h = rw e h
+pub size_there : (x : Line) → is_some (line_size x) ≡ x.good
+size_there x = by_test x.good (λ e. ap is_some (cond_yes x.good _ None e) ∙ sym e) (λ e. ap is_some (cond_no x.good _ None e) ∙ sym e)
+
+pub same_line_lem : (x y : Line) (r : Option ℕ) (old new : List ℕ) (at : ℕ) → x ≡ y
+    → (r ≡ line_size y) × (new ≡ written old at y.code) → (r ≡ line_size x) × (new ≡ written old at x.code)
+same_line_lem x y r old new at e h = rw e h
 
 -- a bank
 abbrev pub bank_code : ℕ → List ℕ
@@ -137,10 +158,6 @@ put_latch l old new at h wrote =
     (wrote ∙ puts-written (word_byte l) (at + 1) 16 (set old at 2) (omega arith))
 
 -- texts of bytes: fewer bytes than digits, and not too many for two bytes
-no_bytes : is_bytes [] ≡ false
-unfolding is_bytes
-no_bytes = refl
-
 pub bytes_fit_lem : (l : List ℕ) → is_bytes l ≡ true → (length l / 2 + 1 ≤ length l) × (length l / 2 < 65536)
 unfolding is_bytes
 bytes_fit_lem l h =
@@ -171,23 +188,16 @@ first_word l = take (space_in l) l
 abbrev pub other_words : List ℕ → List ℕ
 other_words l = drop (space_in l + 1) l
 
-module _ (l q : List ℕ) (p : ℕ) (e : p ≡ space_in l) (rest : q ≡ drop (p + 1) l) where
-  older : older_line l ≡ line_of (is_bytes (take p l) && is_bytes q) (admission (bytes_of (take p l)) (bytes_of q))
+module _ (l r q : List ℕ) (er : r ≡ first_word l) (eq : q ≡ other_words l) where
+  older : older_line l ≡ line_of (is_bytes r && is_bytes q) (admission (bytes_of r) (bytes_of q))
   unfolding older_line
-  older =
-      ap (λ (k : ℕ). line_of (is_bytes (take k l) && is_bytes (drop (k + 1) l)) (admission (bytes_of (take k l)) (bytes_of (drop (k + 1) l)))) (sym e)
-      ∙ ap (λ (s : List ℕ). line_of (is_bytes (take p l) && is_bytes s) (admission (bytes_of (take p l)) (bytes_of s))) (sym rest)
+  older = rw (er, eq) refl
 
-  pub older_bad : (is_bytes (take p l) && is_bytes q) ≡ false → older_line l ≡ no_call
-  older_bad h = older ∙ line_no (is_bytes (take p l) && is_bytes q) (admission (bytes_of (take p l)) (bytes_of q)) h
+  pub older_bad : (is_bytes r && is_bytes q) ≡ false → older_line l ≡ no_call
+  older_bad h = older ∙ line_no (is_bytes r && is_bytes q) (admission (bytes_of r) (bytes_of q)) h
 
-  pub older_none : length l ≤ p → older_line l ≡ no_call
-  older_none h =
-      let none : q ≡ [] = rest ∙ drop_of_length-le l {i = p + 1} (omega arith) in
-      older_bad (and_no (is_bytes (take p l)) (is_bytes q) (ap is_bytes none ∙ no_bytes))
-
-  pub older_good : (is_bytes (take p l) && is_bytes q) ≡ true → older_line l ≡ call (admission (bytes_of (take p l)) (bytes_of q))
-  older_good h = older ∙ line_yes (is_bytes (take p l) && is_bytes q) (admission (bytes_of (take p l)) (bytes_of q)) h
+  pub older_good : (is_bytes r && is_bytes q) ≡ true → older_line l ≡ call (admission (bytes_of r) (bytes_of q))
+  older_good h = older ∙ line_yes (is_bytes r && is_bytes q) (admission (bytes_of r) (bytes_of q)) h
 
 pub older_empty : (l : List ℕ) → (older_line l).good ≡ false → (older_line l).code ≡ []
 unfolding older_line
@@ -201,6 +211,19 @@ byte-number l h =
     let n = (and_split (is_number l) (leb (length l) 3) p).0 in
     let some = (and_split (within 1 5 (length l)) (every (length l) (is_digit l)) n).0 in
     (n, (within_has 1 5 (length l) some).0, leb-true (decimal l) 255 q)
+
+both_small : (a b : ℕ) → (leb a 3 && leb b 255) ≡ not (ltb 3 a || ltb 255 b)
+both_small a b = grind (arith, nat_tests)
+
+pub byte_test : (l : List ℕ) (n : ℕ) → n ≡ decimal l → is_number l ≡ true → is_byte_number l ≡ not (ltb 3 (length l) || ltb 255 n)
+unfolding is_byte_number
+byte_test l n e h =
+    and_assoc (is_number l) (leb (length l) 3) (leb (decimal l) 255) ∙ ap (λ (b : Bool). b && (leb (length l) 3 && leb (decimal l) 255)) h
+    ∙ both_small (length l) (decimal l) ∙ ap (λ (k : ℕ). not (ltb 3 (length l) || ltb 255 k)) (sym e)
+
+pub byte_none : (l : List ℕ) → is_number l ≡ false → is_byte_number l ≡ false
+unfolding is_byte_number
+byte_none l h = and_left_no (is_number l && leb (length l) 3) (leb (decimal l) 255) (and_left_no (is_number l) (leb (length l) 3) h)
 
 abbrev pub are_times : List ℕ → Bool
 are_times t = is_byte_number (first_word t) && is_byte_number (other_words t)
@@ -233,21 +256,6 @@ module _ (l r q t : List ℕ) (er : r ≡ first_word l) (eq : q ≡ first_word (
 
   pub timed-good : (is_bytes r && is_bytes q && are_times t) ≡ true → timed_line l ≡ call (timed_code r q t)
   timed-good h = timed ∙ line_yes (is_bytes r && is_bytes q && are_times t) (timed_code r q t) h
-
--- the texts as they are found: the first space at p, the rows from place a on, the space after them k further, the times from place b on
-pub words_found : (l : List ℕ) (p a k b : ℕ) → p ≡ space_in l → a ≡ min (p + 1) (length l) → k ≡ space_in (take (length l - a) (drop a l))
-    → b ≡ min (a + k + 1) (length l)
-    → (take p l ≡ first_word l) × (take (a + k - a) (drop a l) ≡ first_word (other_words l)) × (take (length l - b) (drop b l) ≡ other_words (other_words l))
-words_found l p a k b ep ea ek eb =
-    let rest : take (length l - a) (drop a l) ≡ other_words l = rest-ends (p + 1) a l ea ∙ ap (λ (n : ℕ). drop (n + 1) l) ep in
-    let after : drop a l ≡ other_words l = sym (rest_all a l) ∙ rest in
-    let space : k ≡ space_in (other_words l) = ek ∙ ap space_in rest in
-    let long : a + k - a ≡ k = omega arith in
-    let place : a + k + 1 ≡ a + (k + 1) = omega arith in (
-      ap (λ (n : ℕ). take n l) ep,
-      ap (λ (n : ℕ). take n (drop a l)) long ∙ ap₂ (λ (n : ℕ) (s : List ℕ). take n s) space after,
-      rest-ends (a + k + 1) b l eb ∙ ap (λ (n : ℕ). drop n l) place ∙ sym (drop-drop (k + 1) a l) ∙ ap₂ (λ (n : ℕ) (s : List ℕ). drop (n + 1) s) space after,
-    )
 
 pub timed_empty : (l : List ℕ) → (timed_line l).good ≡ false → (timed_line l).code ≡ []
 unfolding timed_line

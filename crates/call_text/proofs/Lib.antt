@@ -4,4 +4,5 @@ pub mod LineCases
 pub mod LineLaws
 mod TidyLaws
 mod UnreadLaws
+pub mod Scans
 mod WordLaws

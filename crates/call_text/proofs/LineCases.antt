@@ -11,6 +11,8 @@ use borrow.Author.Tests.{eqb-true}
 use Rattle.laws.specs.Lists.{written}
 use Rattle.laws.proofs.Cases.{cond_yes, cond_no, cond_both, cond-each, and_split}
 use Rattle.laws.proofs.Lists.{length-tab}
+use Rattle.std.specs.Prelude.{Option, Some, None, IfSome}
+use Rattle.call_text.specs.Given.{line_size, memory_given}
 use Rattle.call_text.specs.Words.{begins, decimal, is_number, is_bytes, bytes_of}
 use Rattle.call_text.specs.Lines.{Line, line_of, bank_line, latch_line, space_in, older_line, timed_line, admit_line, step_word, bank_word, latch_word, admit_word, memory_word, line_in}
 use Rattle.call_text.proofs.WordLaws.{bank-long, latch-long, admit-long}
@@ -136,20 +138,21 @@ bad_empty l =
     of b code e = cond_no b code [] e
 
 -- a line read as one of these is read so as a whole
-pub line_read : (l : List ℕ) (x : Line) (good : Bool) (n : ℕ) (old new : List ℕ) (at : ℕ) → line_in l ≡ x
-    → ((good ≡ x.good) × (n ≡ length x.code)) × (new ≡ written old at x.code)
-    → ((good ≡ (line_in l).good) × (n ≡ length (line_in l).code) × (n ≤ length l)) × (new ≡ written old at (line_in l).code)
-line_read l x good n old new at e h =
-    let g : good ≡ (line_in l).good = h.0.0 ∙ ap (λ (y : Line). y.good) (sym e) in
-    let s : n ≡ length (line_in l).code = h.0.1 ∙ ap (λ (y : Line). length y.code) (sym e) in
-    ((g, s, omega (arith, line-size l)), h.1 ∙ ap (λ (y : Line). written old at y.code) (sym e))
+pub line_read : (l : List ℕ) (x : Line) (r : Option ℕ) (old new : List ℕ) (at : ℕ) → line_in l ≡ x → (r ≡ line_size x) × (new ≡ written old at x.code)
+    → (r ≡ line_size (line_in l)) × IfSome r (λ n. n ≤ length l) × (new ≡ written old at (line_in l).code)
+line_read l x r old new at e h =
+    let same : r ≡ line_size (line_in l) = h.0 ∙ ap line_size (sym e) in (
+      same,
+      rw same (cond-each (λ (o : Option ℕ). IfSome o (λ n. n ≤ length l)) (line_in l).good (λ g. line-size l) (λ g. tt)),
+      h.1 ∙ ap (λ (y : Line). written old at y.code) (sym e),
+    )
 
 -- the row memory that a line says
 abbrev pub says_memory : List ℕ → Bool
 says_memory l = begins memory_word l && is_number (drop 7 l) && leb (decimal (drop 7 l)) 65536
 
-pub memory_bad : (l : List ℕ) → says_memory l ≡ false → 65537 ≡ cond (says_memory l) (decimal (drop 7 l)) 65537
+pub memory_bad : (l : List ℕ) → says_memory l ≡ false → memory_given None ≡ cond (says_memory l) (decimal (drop 7 l)) 65537
 memory_bad l e = sym (cond_no (says_memory l) (decimal (drop 7 l)) 65537 e)
 
-pub memory_good : (l : List ℕ) (n : ℕ) → n ≡ decimal (drop 7 l) → says_memory l ≡ true → n ≡ cond (says_memory l) (decimal (drop 7 l)) 65537
+pub memory_good : (l : List ℕ) (n : ℕ) → n ≡ decimal (drop 7 l) → says_memory l ≡ true → memory_given (Some n) ≡ cond (says_memory l) (decimal (drop 7 l)) 65537
 memory_good l n d e = d ∙ sym (cond_yes (says_memory l) (decimal (drop 7 l)) 65537 e)

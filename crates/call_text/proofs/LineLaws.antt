@@ -14,6 +14,9 @@ use Rattle.laws.specs.Lists.{written}
 use Rattle.laws.proofs.Cases.{by_less, cond_yes, cond_no}
 use Rattle.laws.proofs.Find.{least-le}
 use Rattle.laws.proofs.Filled.{length-written, written_none, written_next}
+use Rattle.std.specs.Prelude.{Err}
+use Rattle.refusals.specs.declared.Refusal.TheVariants.{RowsShort}
+use Rattle.call_text.specs.Given.{text_given}
 use Rattle.call_text.specs.Words.{decimal}
 use Rattle.call_text.specs.Lines.{Line, Text, text_of, line_in, line_end, lines_to, lines_in, memory_in, read_text}
 use Rattle.call_text.proofs.CallLaws.{rest_all}
@@ -90,11 +93,12 @@ pub record Reading (text old : List ℕ) (first at size number : ℕ) (code : Li
   pub bad : (lines_in number (drop at text)).bad_line ≡ (lines_in first text).bad_line
   pub short : size ≤ at
   pub ends : at ≤ length text + 1
+  pub from : first ≤ number
   pub few : number ≤ first + at
   pub long : length code ≡ length old
 
 pub reading_starts : (text old : List ℕ) (first : ℕ) → Reading text old first 0 0 first old
-reading_starts text old first = record { wrote = refl; sized = omega arith; bad = refl; short = omega arith; ends = omega arith; few = omega arith; long = refl }
+reading_starts text old first = record { wrote = refl; sized = omega arith; bad = refl; short = omega arith; ends = omega arith; from = omega arith; few = omega arith; long = refl }
 
 module _ (text old : List ℕ) (first at size number : ℕ) (code : List ℕ) (r : Reading text old first at size number code) where
   all_read : (t : Text) → lines_in number (drop at text) ≡ t → t.code ≡ []
@@ -154,18 +158,19 @@ module _ (text old : List ℕ) (first at size number : ℕ) (code : List ℕ) (r
           bad = ap (λ (x : Text). x.bad_line) (sym joined) ∙ r.bad;
           short = omega (arith, line-size line, r.short);
           ends = omega arith;
+          from = omega (arith, r.from);
           few = omega (arith, r.few);
           long = ap length wrote ∙ length-written code size c fits ∙ r.long;
         }
 
 -- the whole text
-pub read_short : (text old : List ℕ) (first : ℕ) → length old < length text → record { refusal = 11; size = 0; bad_line = 0; code = old } ≡ read_text text first old
+pub read_short : (text old : List ℕ) (first : ℕ) → length old < length text → text_given (Err RowsShort) old ≡ read_text text first old
 unfolding read_text
 read_short text old first h = sym (cond_yes (ltb (length old) (length text)) _ _ (lt-ltb (length old) (length text) h))
 
-pub read_whole : (text old : List ℕ) (first refusal size bad : ℕ) (code : List ℕ) → length text ≤ length old
-    → (refusal ≡ 0) × (size ≡ length (lines_in first text).code) × (bad ≡ (lines_in first text).bad_line) → code ≡ written old 0 (lines_in first text).code
-    → record { refusal = refusal; size = size; bad_line = bad; code = code } ≡ read_text text first old
+pub read_whole : (text old : List ℕ) (first size bad : ℕ) (code : List ℕ) → length text ≤ length old
+    → (size ≡ length (lines_in first text).code) × (bad ≡ (lines_in first text).bad_line) → code ≡ written old 0 (lines_in first text).code
+    → record { refusal = 0; size = size; bad_line = bad; code = code } ≡ read_text text first old
 unfolding read_text
-read_whole text old first refusal size bad code h (r, s, b) w =
-    rw (r, s, b, w) (sym (cond_no (ltb (length old) (length text)) _ _ (le-ltb (length old) (length text) h)))
+read_whole text old first size bad code h (s, b) w =
+    rw (s, b, w) (sym (cond_no (ltb (length old) (length text)) _ _ (le-ltb (length old) (length text) h)))

@@ -13,6 +13,9 @@ use borrow.Author.Tests.{le-ltb, lt-ltb}
 use Rattle.laws.specs.Lists.{written}
 use Rattle.laws.proofs.Cases.{by_test, cond_yes, cond_no, cond-each}
 use Rattle.laws.proofs.Filled.{length-written, written_none, written_next}
+use Rattle.std.specs.Prelude.{Ok, Err}
+use Rattle.refusals.specs.declared.Refusal.TheVariants.{RowsShort}
+use Rattle.call_text.specs.Given.{tidy_given}
 use Rattle.call_text.specs.Tidy.{is_blank, place_after, tidied_byte, tidied_from, tidied, tidy_text}
 
 abbrev pub spaced : ℕ → ℕ → Bool
@@ -124,11 +127,11 @@ module _ (text old : List ℕ) (at size s : ℕ) (new : List ℕ) (t : TidiedTo 
         }
 
 -- the whole text
-pub tidy_short : (text old : List ℕ) → length old < length text → record { refusal = 11; size = 0; text = old } ≡ tidy_text text old
+pub tidy_short : (text old : List ℕ) → length old < length text → tidy_given (Err RowsShort) old ≡ tidy_text text old
 unfolding tidy_text
 tidy_short text old h = sym (cond_yes (ltb (length old) (length text)) _ _ (lt-ltb (length old) (length text) h))
 
 pub tidy_whole : (text old : List ℕ) (size : ℕ) (new : List ℕ) → length text ≤ length old → size ≡ length (tidied text) → new ≡ written old 0 (tidied text)
-    → record { refusal = 0; size = size; text = new } ≡ tidy_text text old
+    → tidy_given (Ok size) new ≡ tidy_text text old
 unfolding tidy_text
 tidy_whole text old size new h s w = rw (s, w) (sym (cond_no (ltb (length old) (length text)) _ _ (le-ltb (length old) (length text) h)))

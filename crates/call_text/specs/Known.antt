@@ -3,7 +3,12 @@
 use Rattle.std.specs.Prelude.{ℕ, ◌+◌, Bool, true, false, cond, ◌&&◌, List, [], ◌∷◌, length, take, drop}
 use Rattle.call_text.specs.Words.{begins, hex_word, is_hex_word}
 use Rattle.call_text.specs.Lines.{space_in, line_end}
-pub use Rattle.call_text.specs.declared.KnownRead.{KnownRead}
+
+-- what such a line says: whether it can be read, the mask and the values; 0 where it can't
+pub record KnownRead : Type 0 where
+  pub good : Bool
+  pub known : ℕ
+  pub word : ℕ
 
 -- "known=", "word="
 abbrev pub known_name : List ℕ

@@ -8,6 +8,10 @@ use Rattle.laws.specs.Lists.{tab}
 unfoldable pub begins : List ℕ → List ℕ → Bool
 begins word l = every (length word) (λ i. eqb (get_or l i 0) (get_or word i 0))
 
+-- a word whose bytes are not 0
+abbrev pub without_zeros : List ℕ → Bool
+without_zeros word = every (length word) (λ i. ltb 0 (get_or word i 0))
+
 -- a digit 0 to 9, and the number that the first n digits are
 unfoldable pub is_digit : List ℕ → ℕ → Bool
 is_digit l i = within 48 57 (get_or l i 0)

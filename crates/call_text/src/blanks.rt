@@ -49,14 +49,12 @@ pub fn tidy_whole(text: &[u8], lent: &mut [u8]) -> usize
     ensures value { result ≡ length (tidied text.now) }
     ensures lent_after { lent.new ≡ written lent.old 0 (tidied text.now) }
 {
-    let mut at = 0;
     let mut size = 0;
     let mut s = 0;
-    while at < text.len() {
+    for at in 0..text.len() {
         let c = text[at];
         size += put_tidied(s, c, size, lent);
         s = place_after(s, c);
-        at += 1;
     }
     size
 }

@@ -9,7 +9,8 @@ mod lines;
 mod unread;
 mod words;
 
-ghost use Rattle.std.specs.Prelude.{◌≡◌};
+ghost use Rattle.std.specs.Prelude.{◌≡◌, ◌≤◌, IfOk, IfSome};
+ghost use Rattle.call_text.specs.Given.{tidy_given, memory_given, text_given, wanted_given, known_given};
 ghost use Rattle.call_text.specs.Known.{read_known};
 ghost use Rattle.call_text.specs.Lines.{line_end, memory_in, read_text};
 ghost use Rattle.call_text.specs.Tidy.{tidy_text};
@@ -20,27 +21,27 @@ use crate::known::known_line;
 use crate::lines::{memory_line, read_lines};
 use crate::unread::{line_place, wanted_first};
 use crate::words::byte_in;
+use refusals::Refusal;
 
-// What reading a text answers: 11 where the memory for the calls is too short, how many bytes of calls there are, and the number of the line that
-// can't be read, 0 where there is none.
-#[derive(Clone, Copy)]
+// What was read: how many bytes of calls there are, and the number of the line that can't be read, where there is one.
+#[derive(Clone, Copy, Debug, PartialEq, Eq)]
 pub struct TextRead {
-    pub refusal: u8,
     pub size: usize,
-    pub bad: usize,
+    pub bad: Option<usize>,
 }
 
-// A tidied text: 11 where the memory for it is shorter than the text, and its length.
-#[derive(Clone, Copy)]
-pub struct TextTidied {
-    pub refusal: u8,
-    pub size: usize,
+// The calls, by the word that each begins with.
+#[derive(Clone, Copy, Debug, PartialEq, Eq)]
+pub enum CallKind {
+    Bank,
+    Admit,
+    Latch,
+    Step,
 }
 
-// What a line known=HEX word=HEX says; nothing is known where it can't be read.
-#[derive(Clone, Copy)]
-pub struct KnownRead {
-    pub good: bool,
+// What a line known=HEX word=HEX says: the mask of the known inputs, and their values.
+#[derive(Clone, Copy, Debug, PartialEq, Eq)]
+pub struct KnownInputs {
     pub known: u16,
     pub word: u16,
 }
@@ -52,52 +53,45 @@ pub fn line_end(text: &[u8]) -> usize
     byte_in(text, 10)
 }
 
-// The text with its blanks tidied, at the front of the lent memory.
-pub fn tidy(text: &[u8], lent: &mut [u8]) -> TextTidied
-    ensures { record { refusal = result.refusal; size = result.size; text = lent.new } ≡ tidy_text text.now lent.old }
+// The text with its blanks tidied, at the front of the lent memory, which must be as long as the text; its length.
+pub fn tidy(text: &[u8], lent: &mut [u8]) -> Result<usize, Refusal>
+    ensures { tidy_given result lent.new ≡ tidy_text text.now lent.old }
 {
     if lent.len() < text.len() {
-        return TextTidied {
-            refusal: 11,
-            size: 0,
-        };
+        return Err(Refusal::RowsShort);
     }
-    let size = tidy_whole(text, lent);
-    TextTidied { refusal: 0, size }
+    Ok(tidy_whole(text, lent))
 }
 
-// The bytes of row memory that the first line says; 65,537 where it says none.
-pub fn memory_said(text: &[u8]) -> usize
-    ensures { result ≡ memory_in text.now }
+// The bytes of row memory that the first line says.
+pub fn memory_said(text: &[u8]) -> Option<usize>
+    ensures value { memory_given result ≡ memory_in text.now }
+    ensures within { IfSome result (λ n. n ≤ 65536) }
 {
     memory_line(&text[..line_end(text)])
 }
 
-// Reads the calls of the lines, numbered from first on, up to the first that can't be read, into the lent memory.
-pub fn read_text(text: &[u8], first: u32, code: &mut [u8]) -> TextRead
-    ensures { record { refusal = result.refusal; size = result.size; bad_line = result.bad; code = code.new }
-        ≡ read_text text.now first code.old }
+// Reads the calls of the lines, numbered from first on, up to the first that can't be read, into the lent memory, which must be as long as the text.
+pub fn read_text(text: &[u8], first: u32, code: &mut [u8]) -> Result<TextRead, Refusal>
+    ensures code_after { text_given result code.new ≡ read_text text.now first code.old }
+    ensures bad_from { IfOk result (λ read. IfSome read.bad (λ n. first ≤ n)) }
 {
     if code.len() < text.len() {
-        return TextRead {
-            refusal: 11,
-            size: 0,
-            bad: 0,
-        };
+        return Err(Refusal::RowsShort);
     }
-    read_lines(text, first as usize, code)
+    Ok(read_lines(text, first as usize, code))
 }
 
-// What the line after the first n should have been, by how it begins: 1 bank, 2 admit, 3 latch, 4 step, 0 any of them.
-pub fn wanted(text: &[u8], n: usize) -> u8
-    ensures { result ≡ wanted_after n text.now }
+// What the line after the first n should have been, by how it begins; any call where it begins as none.
+pub fn wanted(text: &[u8], n: usize) -> Option<CallKind>
+    ensures { wanted_given result ≡ wanted_after n text.now }
 {
     wanted_first(&text[line_place(text, n)..])
 }
 
 // Reads the first line, which says the mask of known inputs and their values.
-pub fn read_known(text: &[u8]) -> KnownRead
-    ensures { result ≡ read_known text.now }
+pub fn read_known(text: &[u8]) -> Option<KnownInputs>
+    ensures { known_given result ≡ read_known text.now }
 {
     known_line(&text[..line_end(text)])
 }

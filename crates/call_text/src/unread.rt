@@ -1,27 +1,29 @@
 // What a line that can't be read should have been.
 ghost use Rattle.std.specs.Prelude.{◌≡◌, ◌≤◌, ◌+◌, length, drop};
+ghost use Rattle.call_text.specs.Given.{wanted_given};
 ghost use Rattle.call_text.specs.Wanted.{wanted, lines_after};
 ghost use Rattle.call_text.specs.Lines.{line_end};
 
-use crate::words::{begins, byte_in};
+use crate::CallKind;
+use crate::words::byte_in;
 
-// By how the text begins: 1 bank, 2 admit, 3 latch, 4 step, 0 any of them.
-pub fn wanted_first(text: &[u8]) -> u8
-    ensures { result ≡ wanted text.now }
+// By how the text begins.
+pub fn wanted_first(text: &[u8]) -> Option<CallKind>
+    ensures { wanted_given result ≡ wanted text.now }
 {
-    if begins(b"bank", text) {
-        return 1;
+    if text.starts_with(b"bank") {
+        return Some(CallKind::Bank);
     }
-    if begins(b"admit", text) {
-        return 2;
+    if text.starts_with(b"admit") {
+        return Some(CallKind::Admit);
     }
-    if begins(b"latch", text) {
-        return 3;
+    if text.starts_with(b"latch") {
+        return Some(CallKind::Latch);
     }
-    if begins(b"step", text) {
-        return 4;
+    if text.starts_with(b"step") {
+        return Some(CallKind::Step);
     }
-    0
+    None
 }
 
 // Where the line after the one at place at begins, the end of the text where there is none.
@@ -41,10 +43,8 @@ pub fn line_place(text: &[u8], n: usize) -> usize
     ensures { (drop result text.now ≡ lines_after n text.now) × (result ≤ length text.now) }
 {
     let mut at = 0;
-    let mut i = 0;
-    while i < n {
+    for i in 0..n {
         at = next_line(text, at);
-        i += 1;
     }
     at
 }

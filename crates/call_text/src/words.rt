@@ -1,117 +1,80 @@
 // Numbers and bytes in text.
-ghost use Rattle.std.specs.Prelude.{◌≡◌, true, ◌≤◌, ◌<◌, ◌+◌, ◌-◌, ◌*◌, ◌/◌, ◌^◌, eqb, length, get_or};
+ghost use Rattle.std.specs.Prelude.{◌≡◌, true, false, ◌≤◌, ◌<◌, ◌+◌, ◌*◌, ◌/◌, ◌^◌, cond, eqb, length, get_or, take, drop, MatchOption};
 ghost use Rattle.laws.specs.Tests.{every, least};
 ghost use Rattle.laws.specs.Lists.{puts_at};
-ghost use Rattle.call_text.specs.Words.{begins, is_digit, decimal, is_number, hex_digit, is_hex, hex_word, is_hex_word, hex_byte, is_bytes};
+ghost use Rattle.call_text.specs.Words.{begins, decimal, is_number, hex_digit, is_hex, hex_word, is_hex_word, hex_byte, is_bytes, without_zeros};
+ghost use Rattle.call_text.specs.Based.{number_in};
+ghost use Rattle.call_text.specs.Lines.{space_in};
 
-use numbers::{byte_at, wide};
+use numbers::byte_at;
 
 // The place of the first byte that is x, the length where there is none.
 pub fn byte_in(text: &[u8], x: u8) -> usize
     ensures { (result ≡ least (length text.now) (λ i. eqb (get_or text.now i 0) x)) × (result ≤ length text.now) }
 {
-    let mut i = 0;
-    while i < text.len() {
-        if text[i] == x {
-            return i;
-        }
-        i += 1;
+    text.iter().position(|&c| c == x).unwrap_or(text.len())
+}
+
+// The texts before and after the first space; nothing is after it where there is none.
+pub fn cut(text: &[u8]) -> (&[u8], &[u8])
+    ensures before { result.0.now ≡ take (space_in text.now) text.now }
+    ensures after { result.1.now ≡ drop (space_in text.now + 1) text.now }
+{
+    let (word, rest) = text.split_at(byte_in(text, b' '));
+    if rest.is_empty() {
+        return (word, rest);
     }
-    i
+    (word, &rest[1..])
 }
 
-// The text begins with the word.
-pub fn begins(word: &[u8], text: &[u8]) -> bool
-    ensures { result ≡ begins word.now text.now }
+// What follows the word, where the text begins with it.
+pub fn after<'a>(word: &[u8], text: &'a [u8]) -> Option<&'a [u8]>
+    requires { without_zeros word.now ≡ true }
+    ensures { MatchOption result (begins word.now text.now ≡ false)
+        (λ rest. (begins word.now text.now ≡ true) × (rest.now ≡ drop (length word.now) text.now) × (length rest.now + length word.now ≡ length text.now)) }
 {
-    let mut good = true;
-    let mut i = 0;
-    while i < word.len() {
-        good = good & (byte_at(text, i) == word[i]);
-        i += 1;
+    text.strip_prefix(word)
+}
+
+// The number in the base that one to so many digits are.
+fn number_in(text: &[u8], base: u32, most: usize) -> Option<u32>
+    requires { (2 ≤ base) × (base ≤ 36) × (base ^ most < 2 ^ 32) }
+    ensures { result ≡ number_in base most text.now }
+{
+    if text.is_empty() | (most < text.len()) {
+        return None;
     }
-    good
-}
-
-fn is_digit(text: &[u8], i: usize) -> bool
-    ensures { result ≡ is_digit text.now i }
-{
-    let c = byte_at(text, i);
-    (48 <= c) & (c <= 57)
-}
-
-fn all_digits(text: &[u8]) -> bool
-    ensures { result ≡ every (length text.now) (is_digit text.now) }
-{
-    let mut good = true;
-    let mut i = 0;
-    while i < text.len() {
-        good = good & is_digit(text, i);
-        i += 1;
+    let mut value = 0;
+    for &c in text {
+        value = base * value + char::from(c).to_digit(base)?;
     }
-    good
-}
-
-// One to five digits.
-pub fn is_number(text: &[u8]) -> bool
-    ensures { result ≡ is_number text.now }
-{
-    let n = text.len();
-    (1 <= n) & (n <= 5) & all_digits(text)
-}
-
-fn digit_at(text: &[u8], i: usize) -> usize
-    requires { is_digit text.now i ≡ true }
-    ensures { (result ≡ get_or text.now i 0 - 48) × (result < 10) }
-{
-    (byte_at(text, i) - 48) as usize
+    Some(value)
 }
 
 // The number that one to five digits are.
-pub fn number(text: &[u8]) -> usize
-    requires { is_number text.now ≡ true }
-    ensures { (result ≡ decimal text.now) × (result < 100000) }
+pub fn number(text: &[u8]) -> Option<u32>
+    ensures { result ≡ cond (is_number text.now) (Some (decimal text.now)) None }
 {
-    let mut value = 0;
-    let mut i = 0;
-    while i < text.len() {
-        value = 10 * value + digit_at(text, i);
-        i += 1;
-    }
-    value
+    number_in(text, 10, 5)
+}
+
+// The number that one to four digits in base 16 are.
+pub fn hex_word(text: &[u8]) -> Option<u16>
+    ensures { result ≡ cond (is_hex_word text.now) (Some (hex_word text.now)) None }
+{
+    Some(number_in(text, 16, 4)? as u16)
 }
 
 fn hex_digit(c: u8) -> u8
     ensures { (result ≡ hex_digit c) × (result ≤ 16) }
 {
-    if (48 <= c) & (c <= 57) {
-        return c - 48;
-    }
-    if (97 <= c) & (c <= 102) {
-        return c - 87;
-    }
-    if (65 <= c) & (c <= 70) {
-        return c - 55;
-    }
-    16
+    char::from(c).to_digit(16).unwrap_or(16) as u8
 }
 
 pub fn is_hex(text: &[u8], i: usize) -> bool
     ensures { result ≡ is_hex text.now i }
 {
-    hex_digit(byte_at(text, i)) < 16
-}
-
-fn all_hex(text: &[u8]) -> bool
-    ensures { result ≡ every (length text.now) (is_hex text.now) }
-{
-    let mut good = true;
-    let mut i = 0;
-    while i < text.len() {
-        good = good & is_hex(text, i);
-        i += 1;
-    }
-    good
+    byte_at(text, i).is_ascii_hexdigit()
 }
 
 // Two digits in base 16 a byte, or - for no bytes.
@@ -119,30 +82,8 @@ pub fn is_bytes(text: &[u8]) -> bool
     ensures { result ≡ is_bytes text.now }
 {
     let n = text.len();
-    let none = (n == 1) & (byte_at(text, 0) == 45);
-    none | ((1 <= n) & (n <= 131071) & (n % 2 == 0) & all_hex(text))
-}
-
-// One to four digits in base 16.
-pub fn is_hex_word(text: &[u8]) -> bool
-    ensures { result ≡ is_hex_word text.now }
-{
-    let n = text.len();
-    (1 <= n) & (n <= 4) & all_hex(text)
-}
-
-// The number that one to four digits in base 16 are.
-pub fn hex_word(text: &[u8]) -> usize
-    requires { is_hex_word text.now ≡ true }
-    ensures { (result ≡ hex_word text.now) × (result < 65536) }
-{
-    let mut value = 0;
-    let mut i = 0;
-    while i < text.len() {
-        value = 16 * value + wide(hex_digit(byte_at(text, i)));
-        i += 1;
-    }
-    value
+    let none = (n == 1) & (byte_at(text, 0) == b'-');
+    none | ((1 <= n) & (n <= 131071) & (n % 2 == 0) & text.iter().all(|c| c.is_ascii_hexdigit()))
 }
 
 // The byte whose two digits stand at place i.
@@ -160,9 +101,7 @@ pub fn put_bytes(text: &[u8], at: usize, code: &mut [u8])
         ≡ puts_at at (length text.now / 2) (λ i. hex_byte text.now (2 * i)) code.old }
 {
     let n = text.len() / 2;
-    let mut i = 0;
-    while i < n {
+    for i in 0..n {
         code[at + i] = hex_byte(text, 2 * i);
-        i += 1;
     }
 }

@@ -12,4 +12,8 @@ slice_bounds-memory_line-end c =
     sym (length-take-le c.line_end.result l (omega (arith, c.line_end.ensures, line_end-le l)))
 
 pub returns : goal.returns
-returns c = memory_read c.args.text.now c.line_end.result _ c.line_end.ensures c.memory_line.ensures
+returns c =
+    record {
+      value = memory_read c.args.text.now c.line_end.result _ c.line_end.ensures c.memory_line.ensures.value;
+      within = c.memory_line.ensures.within;
+    }

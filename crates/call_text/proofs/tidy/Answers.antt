@@ -11,5 +11,5 @@ returns-then-lent-text c =
 pub returns : goal.returns
 returns c =
     let a = c.args in
-    let made = c.tidy_whole-size in
+    let made = c.tidy_whole in
     tidy_whole a.text.now a.lent.now _ _ c.if-lent-text.false made.ensures.value made.ensures.lent_after

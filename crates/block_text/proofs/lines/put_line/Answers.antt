@@ -1,9 +1,13 @@
 -- `lines::put_line` meets its contract.
 -- Assumes nothing.
-use Prim.Native.Nat.{◌+◌}
+use mathlib.Core.Path.{◌∙◌, ap}
+use mathlib.Core.List.{List}
+use Prim.Native.Nat.{ℕ, ◌+◌}
 use native.Mathlib.Omega.{arith}
-use lib.ListN.{length-set}
+use lib.ListN.{length, length-set}
 use Rattle.block_text.specs.BlockLine.{bytes_text, block_line}
+use Rattle.laws.specs.Lists.{written}
+use Rattle.call_text.proofs.CallLaws.{mid_written}
 use Rattle.block_text.proofs.WriteLaws.{put_line}
 use Rattle.block_text.proofs.lines.put_line.Goals as goal
 
@@ -29,6 +33,9 @@ unfolding block_line
 returns c =
     let first = c.put_text-r in
     let second = c.put_text-q in
-    put_line (bytes_text c.args.records.now) (bytes_text c.args.rows.now) c.args.text.now c.put_word.new.text first.new.text
-    second.new.text first.result second.result first.ensures.value second.ensures.value c.requires c.put_word.ensures first.ensures.text_after
+    let a = c.args in
+    let word = mid_written 0 6 a.text.now c.copy_from_slice.new.self (omega (arith, ap length c.copy_from_slice.ensures.after))
+    ∙ ap (λ (s : List ℕ). written a.text.now 0 s) c.copy_from_slice.ensures.after in
+    put_line (bytes_text a.records.now) (bytes_text a.rows.now) a.text.now _ first.new.text
+    second.new.text first.result second.result first.ensures.value second.ensures.value c.requires word first.ensures.text_after
     second.ensures.text_after

@@ -3,10 +3,11 @@
 use mathlib.Core.Path.{sym}
 use native.Mathlib.Omega.{arith}
 use Rattle.block_text.proofs.BytesBack.{length_none, length_some}
+use Rattle.block_text.proofs.Coded.{no_bytes, some_bytes}
 use Rattle.block_text.proofs.lines.text_size.Goals as goal
 
-pub returns-then-bytes-eq0 : goal.returns-then-bytes-eq0
-returns-then-bytes-eq0 c = (sym (length_none c.args.bytes.now c.if-bytes-eq0.true), omega arith)
+pub returns-then-is_empty : goal.returns-then-is_empty
+returns-then-is_empty c = (sym (length_none c.args.bytes.now (no_bytes c.args.bytes.now _ c.is_empty.ensures c.if-is_empty.true)), omega arith)
 
 pub returns : goal.returns
-returns c = (sym (length_some c.args.bytes.now c.if-bytes-eq0.false), omega arith)
+returns c = (sym (length_some c.args.bytes.now (some_bytes c.args.bytes.now _ c.is_empty.ensures c.if-is_empty.false)), omega arith)

@@ -7,12 +7,12 @@ use Rattle.call_text.proofs.CallLaws.{put_sizes}
 use Rattle.call_text.proofs.admissions.put_sizes.Goals as goal
 
 pub put_pair-requires : goal.put_pair-requires
-put_pair-requires c = (c.requires.0, simp length-set (omega arith))
+put_pair-requires c = simp length-set (omega arith)
 
 pub put_pair-requires-2 : goal.put_pair-requires-2
 put_pair-requires-2 c =
     let long : length c.put_pair.new.code ≡ length c.args.code.now = c.put_pair.auto.code ∙ length-set c.args.code.now c.args.at c.args.call in
-    (c.requires.1, omega (arith, long))
+    omega (arith, long)
 
 pub bounds-code-at-2 : goal.bounds-code-at-2
 bounds-code-at-2 c =
@@ -25,4 +25,4 @@ shape_of-code c =
 
 pub returns : goal.returns
 returns c =
-    put_sizes c.args.code.now _ _ c.args.at c.args.call c.args.records c.args.rows c.requires.2 c.put_pair.ensures c.put_pair-2.ensures
+    put_sizes c.args.code.now _ _ c.args.at c.args.call c.args.records c.args.rows c.requires c.put_pair.ensures c.put_pair-2.ensures

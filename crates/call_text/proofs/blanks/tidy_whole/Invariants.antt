@@ -1,12 +1,7 @@
 -- `blanks::tidy_whole` meets its contract.
 -- Assumes nothing.
-use Prim.Native.Nat.{◌-◌}
-use lib.ListN.{length}
 use Rattle.call_text.proofs.TidyLaws.{TidiedTo}
 use Rattle.call_text.proofs.blanks.tidy_whole.Given as goal
 
 abbrev pub invariant-loop-at : goal.invariant-loop-at
 invariant-loop-at l = TidiedTo l.text l.initial.lent l.at l.size l.s l.lent
-
-abbrev pub decreases-loop-at : goal.decreases-loop-at
-decreases-loop-at l = length l.text - l.at

@@ -1,24 +1,27 @@
 -- `known::said` meets its contract.
 -- Assumes nothing.
-use mathlib.Core.Path.{◌∙◌, ap}
+use mathlib.Core.Path.{sym, ◌∙◌, ap}
+use mathlib.Core.Bool.{Bool, cond, ◌&&◌}
+use mathlib.Core.List.{List}
+use Prim.Native.Nat.{ℕ}
 use lib.ListN.{length, drop}
-use Rattle.laws.proofs.Cases.{and_split}
-use Rattle.laws.proofs.Parts.{rest-ends}
+use Rattle.std.specs.Prelude.{Some, None}
+use Rattle.laws.proofs.Cases.{cond_no, and_left_no}
 use Rattle.call_text.specs.Words.{begins, hex_word, is_hex_word}
 use Rattle.call_text.specs.Known.{says, said}
 use Rattle.call_text.proofs.known.said.Goals as goal
 
-pub hex_word-requires : goal.hex_word-requires
+pub returns-in_err-after : goal.returns-in_err-after
 unfolding says
-hex_word-requires c =
+returns-in_err-after c =
     let name = c.args.name.now in
     let text = c.args.text.now in
-    ap is_hex_word (rest-ends (length name) c.least-from.result text c.least-from.ensures.0)
-    ∙ (and_split (begins name text) (is_hex_word (drop (length name) text)) c.requires).1
+    c.from_residual.ensures ∙ sym (cond_no (says name text) _ None (and_left_no (begins name text) (is_hex_word (drop (length name) text)) c.in_err-after.ensures))
 
 pub returns : goal.returns
-unfolding said
+unfolding says said
 returns c =
-    let a = c.args in
-    let least = c.least-from in
-    c.hex_word.ensures.0 ∙ ap hex_word (rest-ends (length a.name.now) least.result a.text.now least.ensures.0)
+    let rest = drop (length c.args.name.now) c.args.text.now in
+    let (begun, is, long) = c.in_ok-after.ensures in
+    c.hex_word.ensures ∙ ap (λ (l : List ℕ). cond (is_hex_word l) (Some (hex_word l)) None) is
+    ∙ ap (λ (b : Bool). cond (b && is_hex_word rest) (Some (hex_word rest)) None) (sym begun)

@@ -1,17 +1,14 @@
 -- `call_text::lines::all_word_bytes` meets its contract.
 -- Assumes nothing.
-use mathlib.Core.Path.{◌≡◌}
-use native.Mathlib.Omega.{arith}
+use mathlib.Core.Path.{refl, ◌∙◌}
 use Rattle.call_text.specs.Lines.{is_word_byte}
-use Rattle.laws.proofs.Tests.{every-step}
+use Rattle.std.proofs.Common.{rules, tests}
+use Rattle.std.proofs.lemmas.Iterator.{YieldsList-from_range}
+use Rattle.std.proofs.lemmas.Iterator.Search.{all_from_yields_List}
+use Rattle.call_text.proofs.Scans.{all_ranged}
 use Rattle.call_text.proofs.lines.all_word_bytes.Goals as goal
-
-pub loop-i-preserved : goal.loop-i-preserved
-loop-i-preserved c =
-    let l = c.loop-i in
-    (omega arith, every-step (is_word_byte c.args.rest.now) l.i l.invariant.1 c.is_word_byte-good.ensures)
 
 pub returns : goal.returns
 returns c =
-    let e : c.loop-i.i ≡ 16 = omega arith in
-    rw e at c.loop-i.invariant.1
+    all_from_yields_List (is_word_byte c.args.rest.now) _ _ c.all.result c.all.ensures.ran (YieldsList-from_range 0 16 16 refl refl) (λ x b q k. search (rules, tests))
+    ∙ all_ranged (is_word_byte c.args.rest.now) 0 16

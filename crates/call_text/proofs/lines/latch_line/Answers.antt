@@ -17,7 +17,7 @@ returns-then-not-spaced-all_word_bytes c =
     let l = a.rest.now in
     let e = ap₂ (λ (s w : Bool). eqb (length l) 40 && s && w) c.all_spaces.ensures c.all_word_bytes.ensures in
     let done = bad_line_lem _ a.code.now a.at (latch_bad l (sym e ∙ c.if-not-spaced-all_word_bytes.true)) in
-    record { good_value = done.0; code_after = done.1 }
+    record { value = done.0; code_after = done.1 }
 
 pub put_words-requires : goal.put_words-requires
 put_words-requires c =
@@ -39,4 +39,4 @@ returns c =
     let good = sym e ∙ c.if-not-spaced-all_word_bytes.false in
     let long = latch-length l good in
     let done = good-line _ (latch_code l) a.code.now _ a.at 17 (latch-good l good) refl (put_latch l a.code.now _ a.at (omega arith) c.put_words.ensures) in
-    record { good_value = done.0; code_after = done.1 }
+    record { value = done.0; code_after = done.1 }

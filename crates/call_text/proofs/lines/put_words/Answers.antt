@@ -13,7 +13,7 @@ use Rattle.call_text.proofs.lines.put_words.Goals as goal
 pub loop-i-init : goal.loop-i-init
 loop-i-init c =
     let a = c.args in
-    (omega arith, sym (puts_at-none (word_byte a.rest.now) a.at a.code.now))
+    sym (puts_at-none (word_byte a.rest.now) a.at a.code.now)
 
 pub hex_byte-requires : goal.hex_byte-requires
 hex_byte-requires c =
@@ -25,20 +25,20 @@ hex_byte-requires c =
 pub bounds-code-at : goal.bounds-code-at
 bounds-code-at c =
     let l = c.loop-i in
-    let long : length l.code ≡ length c.args.code.now = rw length-puts_at at (ap length l.invariant.1) in
+    let long : length l.code ≡ length c.args.code.now = rw length-puts_at at (ap length l.invariant) in
     omega arith
 
 pub loop-i-preserved : goal.loop-i-preserved
 loop-i-preserved c =
     let l = c.loop-i in
     let a = c.args in
-    (omega arith, puts_at-next (word_byte a.rest.now) a.at l.i a.code.now l.code _ l.invariant.1 (c.hex_byte.ensures ∙ ap (hex_byte a.rest.now) c.word_place.ensures.0))
+    puts_at-next (word_byte a.rest.now) a.at l.i a.code.now l.code _ l.invariant (c.hex_byte.ensures ∙ ap (hex_byte a.rest.now) c.word_place.ensures.0)
 
 pub shape_of-code : goal.shape_of-code
-shape_of-code c = rw length-puts_at at (ap length c.loop-i.invariant.1)
+shape_of-code c = rw length-puts_at at (ap length c.loop-i.invariant)
 
 pub returns : goal.returns
 returns c =
     let l = c.loop-i in
     let e : l.i ≡ 16 = omega arith in
-    rw e at l.invariant.1
+    rw e at l.invariant
