@@ -1,316 +1,155 @@
 // The cascade beside the diagram: a box for each cell, and the cut below it as a line across both.
 ghost use Rattle.std.specs.Prelude.{◌≤◌, ◌<◌};
 
-use crate::diagram::{say_numbers, variable_at};
-use crate::names::{say_bundle, say_name, say_rails, say_with};
-use numbers::{least, pair, wide, wide16};
-use printing::say;
-use reduction_spec::Widths;
+use crate::Picture;
+use crate::names::{Bundle, Name, Rails};
+use printing::{Output, behind, front};
 use sheet_spec::MOST_VARIABLES;
+use std::io::Write;
+use std::{fmt, io};
+use stored::CellPlace;
 
 // Cells of more rows are drawn without them.
 const SHOWN_ROWS: usize = 16;
 
-fn difference(a: usize, b: usize) -> usize
-    ensures { result ≤ a }
-{
-    if b < a {
-        return a - b;
-    }
-    0
-}
-
-// The height in the middle of a cell.
-fn middle(top: usize, bottom: usize) -> usize {
-    difference(top, difference(difference(top, bottom), 1) / 2)
-}
-
-// A name, where the variable is an input or an output as is asked.
-fn say_if(rt: HostRuntime, out: &mut [u8], at: usize, variable: u8, inputs: bool) -> usize {
-    if (variable < 128) == inputs {
-        let said = say(rt, out, at, b" ");
-        return say_name(rt, out, said, variable);
-    }
-    at
-}
-
-// The inputs or the outputs from one height below the top down to another, a space before each.
-fn say_variables(
-    rt: HostRuntime,
-    out: &mut [u8],
-    at: usize,
-    records: &[u8],
-    from: usize,
-    to: usize,
+// The inputs, or the outputs, of the records, a space before each.
+#[derive(Clone, Copy)]
+struct Names<'a> {
+    records: &'a [[u8; 4]],
     inputs: bool,
-) -> usize {
-    let last = least(to, MOST_VARIABLES);
-    let mut said = at;
-    let mut d = from;
-    while d < last {
-        said = say_if(rt, out, said, variable_at(records, d), inputs);
-        d += 1;
+}
+
+impl fmt::Display for Names<'_> {
+    fn fmt<W: fmt::Write>(&self, f: &mut fmt::Formatter<W>) -> fmt::Result {
+        let inputs = self.inputs;
+        for &[variable, _, _, _] in self.records {
+            if (variable < 128) == inputs {
+                write!(f, " {}", Name(variable))?;
+            }
+        }
+        Ok(())
     }
-    said
 }
 
-// What the cell reads, in the order of a row's number: rails first. What it gives, in the order of a row's value: rails last.
-fn say_sides(
-    rt: HostRuntime,
-    out: &mut [u8],
-    at: usize,
-    records: &[u8],
-    k: usize,
-    from: usize,
-    to: usize,
-) -> usize {
-    let rails = stored::cell_rails(records, k);
-    let opened = say(rt, out, at, b"\\nin:");
-    let upper = say_bundle(rt, out, opened, wide(rails.upper));
-    let inputs = say_variables(rt, out, upper, records, from, to, true);
-    let middle = say(rt, out, inputs, b"\\nout:");
-    let outputs = say_variables(rt, out, middle, records, from, to, false);
-    say_bundle(rt, out, outputs, wide(rails.lower))
-}
+// The number of the rows, and where they are few the rows in lines of eight, each headed by which it shows.
+#[derive(Clone, Copy)]
+struct Rows<'a>(&'a [[u8; 2]]);
 
-// Which rows a line of eight shows, at its head.
-fn say_line(rt: HostRuntime, out: &mut [u8], at: usize, j: usize, count: usize) -> usize
-    requires { j < 16 }
-{
-    if j % 8 == 0 {
-        let said = say_with(rt, out, at, b"\\n", j, b" to ");
-        return say_with(rt, out, said, b"", least(j + 7, difference(count, 1)), b":");
+impl fmt::Display for Rows<'_> {
+    fn fmt<W: fmt::Write>(&self, f: &mut fmt::Formatter<W>) -> fmt::Result {
+        let rows = self.0;
+        write!(f, "\\n{} rows", rows.len())?;
+        if SHOWN_ROWS < rows.len() {
+            return Ok(());
+        }
+        for (j, &row) in rows.iter().enumerate() {
+            if j % 8 == 0 {
+                write!(f, "\\n{j} to {}:", (j + 7).min(rows.len() - 1))?;
+            }
+            write!(f, " {}", u16::from_le_bytes(row))?;
+        }
+        Ok(())
     }
-    at
 }
 
-fn say_row(
-    rt: HostRuntime,
-    out: &mut [u8],
-    at: usize,
-    j: usize,
-    count: usize,
-    value: usize,
-) -> usize
-    requires { j < 16 }
-{
-    let headed = say_line(rt, out, at, j, count);
-    say_with(rt, out, headed, b" ", value, b"")
-}
-
-// The values of the rows, which are two bytes each, in lines of eight.
-fn say_rows(rt: HostRuntime, out: &mut [u8], at: usize, rows: &[u8]) -> usize {
-    let count = rows.len() / 2;
-    let last = least(count, SHOWN_ROWS);
-    let mut said = at;
-    let mut j = 0;
-    while j < last {
-        said = say_row(
-            rt,
-            out,
-            said,
-            j,
-            count,
-            wide16(pair(rows[j * 2], rows[j * 2 + 1])),
+impl Picture<'_> {
+    // What the cell reads, in the order of a row's number: rails first. What it gives, in the order of a row's value: rails last.
+    fn draw_label(&self, out: &mut Output, k: usize, place: CellPlace) -> io::Result<()> {
+        let rails = stored::cell_rails(self.records.as_flattened(), k);
+        let t = self.records.len();
+        let records = behind(
+            front(self.records, t.saturating_sub(place.bottom)),
+            t.saturating_sub(place.top),
         );
-        j += 1;
-    }
-    said
-}
-
-// The number of rows from place at up to place end, and the rows where they are few.
-fn say_table(
-    rt: HostRuntime,
-    out: &mut [u8],
-    at: usize,
-    rows: &[u8],
-    from: usize,
-    to: usize,
-) -> usize {
-    let count = difference(to, from);
-    let said = say_with(rt, out, at, b"\\n", count, b" rows");
-    let end = least(to, rows.len() / 2);
-    let begin = least(from, end);
-    if count <= SHOWN_ROWS {
-        return say_rows(rt, out, said, &rows[begin * 2..end * 2]);
-    }
-    said
-}
-
-// A cell, named by the heights of its cuts as the listing does.
-fn say_box(rt: HostRuntime, out: &mut [u8], at: usize, top: usize, bottom: usize) -> usize {
-    let opened = say_with(
-        rt,
-        out,
-        at,
-        b"    cell",
-        top,
-        b" [shape=box, margin=\"0.1,0.05\", fillcolor=lightyellow, label=\"cell ",
-    );
-    let said = say_with(rt, out, opened, b"", top, b" ");
-    say_with(rt, out, said, b"", bottom, b"")
-}
-
-// Keeps the cell to the right of the nodes at a height, and the margin to their left.
-fn say_aside(
-    rt: HostRuntime,
-    out: &mut [u8],
-    at: usize,
-    words: &[u16],
-    count: usize,
-    h: usize,
-    top: usize,
-) -> usize {
-    let opened = say_with(rt, out, at, b"  {\n    rank=same\n    h", h, b" -> {");
-    let said = say_numbers(rt, out, opened, words, count, h);
-    say_with(rt, out, said, b" } -> cell", top, b" [style=invis]\n")
-}
-
-// The box of cell k.
-fn say_cell(
-    rt: HostRuntime,
-    out: &mut [u8],
-    at: usize,
-    words: &[u16],
-    count: usize,
-    records: &[u8],
-    rows: &[u8],
-    k: usize,
-) -> usize {
-    let place = stored::cell_place(records, k);
-    let t = records.len() / 4;
-    let aside = say_aside(
-        rt,
-        out,
-        at,
-        words,
-        count,
-        middle(place.top, place.bottom),
-        place.top,
-    );
-    let opened = say_box(rt, out, aside, place.top, place.bottom);
-    let sides = say_sides(
-        rt,
-        out,
-        opened,
-        records,
-        k,
-        difference(t, place.top),
-        difference(t, place.bottom),
-    );
-    let said = say_table(rt, out, sides, rows, place.at, place.end);
-    say(rt, out, said, b"\"]\n  }\n")
-}
-
-fn width_at(widths: &Widths, h: usize) -> u16 {
-    if h < MOST_VARIABLES {
-        return widths[h];
-    }
-    0
-}
-
-// The left end of a cut: its height, width and rails.
-fn say_left(rt: HostRuntime, out: &mut [u8], at: usize, h: usize, width: u16) -> usize {
-    let opened = say_with(
-        rt,
-        out,
-        at,
-        b"  {\n    rank=same\n    c",
-        h,
-        b" [shape=plaintext, margin=\"0.1,0\", fontcolor=firebrick, label=\"height ",
-    );
-    let high = say_with(rt, out, opened, b"", h, b": width ");
-    let said = say_with(rt, out, high, b"", wide16(width), b", rails ");
-    say_with(rt, out, said, b"", wide(cutting::rails(width)), b"\"]\n")
-}
-
-// Its right end: the rails that cross it there; none at height 0.
-fn say_right(rt: HostRuntime, out: &mut [u8], at: usize, h: usize, width: u16) -> usize {
-    if h == 0 {
-        return say(
-            rt,
-            out,
-            at,
-            b"    r0 [shape=point, width=0.01, height=0.01, color=firebrick]\n",
+        let (upper, inputs) = (
+            Bundle(rails.upper),
+            Names {
+                records,
+                inputs: true,
+            },
         );
+        let (outputs, lower) = (
+            Names {
+                records,
+                inputs: false,
+            },
+            Bundle(rails.lower),
+        );
+        let rows = Rows(behind(front(self.rows, place.end), place.at));
+        write!(
+            out,
+            "cell {} {}\\nin:{upper}{inputs}\\nout:{outputs}{lower}{rows}",
+            place.top, place.bottom
+        )
     }
-    let opened = say_with(rt, out, at, b"    r", h, b" [shape=plaintext, label=\"");
-    let said = say_rails(rt, out, opened, wide(cutting::rails(width)));
-    say(rt, out, said, b"\"]\n")
-}
 
-// The line between both, between the margins of two heights.
-fn say_across(rt: HostRuntime, out: &mut [u8], at: usize, h: usize) -> usize
-    requires { h < 20 }
-{
-    let opened = say_with(rt, out, at, b"    c", h, b" -> r");
-    let line = say_with(
-        rt,
-        out,
-        opened,
-        b"",
-        h,
-        b" [color=firebrick, penwidth=1.5]\n  }\n",
-    );
-    let above = say_with(rt, out, line, b"  h", h + 1, b" -> c");
-    let below = say_with(rt, out, above, b"", h, b" -> h");
-    say_with(rt, out, below, b"", h, b" [style=invis, weight=1000]\n")
-}
-
-// The arrow from a cell through the cut below it to the next cell; from the last cell none is seen.
-fn say_arrow(rt: HostRuntime, out: &mut [u8], at: usize, top: usize, bottom: usize) -> usize {
-    let opened = say_with(rt, out, at, b"  cell", top, b" -> r");
-    if bottom == 0 {
-        return say(rt, out, opened, b"0 [style=invis, weight=100]\n");
+    // The box of cell k, named by the heights of its cuts as the listing does. It is kept to the right of the nodes at the height in its middle, and the
+    // margin to their left.
+    fn draw_cell(&self, out: &mut Output, k: usize, place: CellPlace) -> io::Result<()> {
+        let (top, bottom) = (place.top, place.bottom);
+        let middle = top - top.min(top.saturating_sub(bottom).saturating_sub(1) / 2);
+        write!(out, "  {{\n    rank=same\n    h{middle} -> {{")?;
+        self.draw_numbers(out, middle)?;
+        writeln!(out, " }} -> cell{top} [style=invis]")?;
+        write!(
+            out,
+            "    cell{top} [shape=box, margin=\"0.1,0.05\", fillcolor=lightyellow, label=\""
+        )?;
+        self.draw_label(out, k, place)?;
+        writeln!(out, "\"]\n  }}")
     }
-    let upper = say_with(rt, out, opened, b"", bottom, b" [weight=100]\n");
-    let lower = say_with(rt, out, upper, b"  r", bottom, b" -> cell");
-    say_with(
-        rt,
-        out,
-        lower,
-        b"",
-        bottom,
-        b" [arrowhead=normal, weight=100]\n",
-    )
-}
 
-// The cut below cell k.
-fn say_cut(
-    rt: HostRuntime,
-    out: &mut [u8],
-    at: usize,
-    records: &[u8],
-    widths: &Widths,
-    k: usize,
-) -> usize {
-    let place = stored::cell_place(records, k);
-    let h = least(place.bottom, MOST_VARIABLES - 1);
-    let width = width_at(widths, h);
-    let left = say_left(rt, out, at, h, width);
-    let right = say_right(rt, out, left, h, width);
-    let across = say_across(rt, out, right, h);
-    say_arrow(rt, out, across, place.top, h)
-}
-
-// Each cell, topmost first, and the cut below it.
-pub fn say_cells(
-    rt: HostRuntime,
-    out: &mut [u8],
-    at: usize,
-    words: &[u16],
-    count: usize,
-    records: &[u8],
-    rows: &[u8],
-    widths: &Widths,
-    cells: usize,
-) -> usize {
-    let mut said = at;
-    let mut k = 0;
-    while k < cells {
-        said = say_cell(rt, out, said, words, count, records, rows, k);
-        said = say_cut(rt, out, said, records, widths, k);
-        k += 1;
+    // A cut: its height, width and rails at the left end, and at the right end the rails that cross it there; none at height 0.
+    fn draw_ends(&self, out: &mut Output, h: usize, width: u16) -> io::Result<()> {
+        let rails = cutting::rails(width);
+        writeln!(out, "  {{\n    rank=same")?;
+        write!(
+            out,
+            "    c{h} [shape=plaintext, margin=\"0.1,0\", fontcolor=firebrick, "
+        )?;
+        writeln!(out, "label=\"height {h}: width {width}, rails {rails}\"]")?;
+        if h == 0 {
+            return writeln!(
+                out,
+                "    r0 [shape=point, width=0.01, height=0.01, color=firebrick]"
+            );
+        }
+        writeln!(
+            out,
+            "    r{h} [shape=plaintext, label=\"{}\"]",
+            Rails(rails)
+        )
     }
-    said
+
+    // The cut below a cell: the line between both ends, between the margins of two heights, and the arrow from the cell through the cut to the next cell;
+    // from the last cell none is seen.
+    fn draw_cut(&self, out: &mut Output, top: usize, h: usize) -> io::Result<()>
+        requires { h < 20 }
+    {
+        self.draw_ends(out, h, self.widths[h])?;
+        writeln!(
+            out,
+            "    c{h} -> r{h} [color=firebrick, penwidth=1.5]\n  }}"
+        )?;
+        writeln!(
+            out,
+            "  h{} -> c{h} -> h{h} [style=invis, weight=1000]",
+            h + 1
+        )?;
+        if h == 0 {
+            return writeln!(out, "  cell{top} -> r0 [style=invis, weight=100]");
+        }
+        writeln!(out, "  cell{top} -> r{h} [weight=100]")?;
+        writeln!(out, "  r{h} -> cell{h} [arrowhead=normal, weight=100]")
+    }
+
+    // Each cell, topmost first, and the cut below it.
+    pub fn draw_cells(&self, out: &mut Output) -> io::Result<()> {
+        for k in 0..self.cells {
+            let place = stored::cell_place(self.records.as_flattened(), k);
+            self.draw_cell(out, k, place)?;
+            self.draw_cut(out, place.top, place.bottom.min(MOST_VARIABLES - 1))?;
+        }
+        Ok(())
+    }
 }

@@ -9,12 +9,24 @@ mod names;
 
 ghost use Rattle.std.specs.Prelude.{◌≡◌, length};
 
-use crate::cells::say_cells;
-use crate::diagram::{say_edges, say_heights};
-use numbers::{byte_at, least, wide, wide16};
-use printing::say;
+use listing::job_in;
+use listing::nodes::compile_nodes;
+use printing::{Ending, Output, front, zeros};
 use reduction_spec::{NODE_WORDS, Widths};
-use stored_spec::MOST_RECORD_BYTES;
+use std::io;
+use std::io::Write;
+use stored_spec::{MOST_RECORD_BYTES, MOST_ROW_BYTES};
+
+// What is drawn: the nodes (height, child for 0, child for 1), the records, a variable each, the rows, two bytes each, the width at each height, and how
+// many cells there are.
+#[derive(Clone, Copy)]
+struct Picture<'a> {
+    nodes: &'a [[u16; 3]],
+    records: &'a [[u8; 4]],
+    rows: &'a [[u8; 2]],
+    widths: &'a Widths,
+    cells: usize,
+}
 
 fn node_memory() -> [u16; NODE_WORDS]
     ensures { 30720 ≡ length result }
@@ -23,89 +35,73 @@ fn node_memory() -> [u16; NODE_WORDS]
 }
 
 // What holds for the whole picture, and how to read it.
-fn say_head(rt: HostRuntime, out: &mut [u8], at: usize) -> usize {
-    let opened = say(
-        rt,
+fn draw_head(out: &mut Output) -> io::Result<()> {
+    writeln!(out, "digraph cascade {{")?;
+    write!(
         out,
-        at,
-        b"digraph cascade {\n  graph [splines=line, outputorder=edgesfirst, nodesep=0.3, ranksep=0.45, fontname=\"Helvetica\", fontsize=11]\n",
-    );
-    let line = say(
-        rt,
+        "  graph [splines=line, outputorder=edgesfirst, nodesep=0.3, ranksep=0.45, "
+    )?;
+    writeln!(out, "fontname=\"Helvetica\", fontsize=11]")?;
+    write!(out, "  label=\"Dashed edge: the variable is 0, solid: 1. ")?;
+    write!(
         out,
-        opened,
-        b"  label=\"Dashed edge: the variable is 0, solid: 1. Edges to constant 0 are left out. #c at a cut: column c.\\n",
-    );
-    let legend = say(
-        rt,
+        "Edges to constant 0 are left out. #c at a cut: column c.\\n"
+    )?;
+    writeln!(
         out,
-        line,
-        b"What a cell reads and gives is written highest bit first.\"\n",
-    );
-    let nodes = say(
-        rt,
+        "What a cell reads and gives is written highest bit first.\""
+    )?;
+    write!(
         out,
-        legend,
-        b"  node [shape=ellipse, style=filled, fillcolor=white, width=0.5, height=0.4, margin=\"0.02,0.02\", fontname=\"Helvetica\", fontsize=12]\n",
-    );
-    say(rt, out, nodes, b"  edge [arrowhead=none]\n")
+        "  node [shape=ellipse, style=filled, fillcolor=white, width=0.5, height=0.4, "
+    )?;
+    writeln!(
+        out,
+        "margin=\"0.02,0.02\", fontname=\"Helvetica\", fontsize=12]"
+    )?;
+    writeln!(out, "  edge [arrowhead=none]")
 }
 
-fn draw_all(
-    rt: HostRuntime,
-    out: &mut [u8],
-    words: &[u16],
-    count: usize,
-    records: &[u8],
-    rows: &[u8],
-    widths: &Widths,
-    cells: usize,
-) {
-    let head = say_head(rt, out, 0);
-    let heights = say_heights(rt, out, head, words, count, records);
-    let edges = say_edges(rt, out, heights, words, count);
-    let said = say_cells(rt, out, edges, words, count, records, rows, widths, cells);
-    let ended = say(rt, out, said, b"}\n");
-    printing::end(rt, out, ended);
-}
-
-fn refuse(rt: HostRuntime, refusal: u8) {
-    let mut out = printing::memory();
-    let said = printing::say_refused(rt, &mut out, 0, refusal);
-    if printing::end(rt, &out, said) {
-        printing::tell(rt, b"refused\n");
+impl Picture<'_> {
+    fn draw(&self, out: &mut Output) -> io::Result<Ending> {
+        draw_head(out)?;
+        self.draw_heights(out)?;
+        self.draw_edges(out)?;
+        self.draw_cells(out)?;
+        writeln!(out, "}}")?;
+        Ok(Ending::Done)
     }
 }
 
-// Prints the picture of the job and sheet of the input, or "refused N".
-pub fn draw(rt: HostRuntime, input: &[u8]) {
+// The picture of the job and sheet of the input, or "refused N".
+pub fn draw(out: &mut Output, input: &[u8]) -> io::Result<Ending> {
     let mut words = node_memory();
-    let mut records = listing::record_memory();
-    let mut rows = listing::row_memory();
-    let compiled = listing::nodes::compile_nodes(input, &mut words, &mut records, &mut rows);
-    if compiled.refusal != 0 {
-        refuse(rt, compiled.refusal);
-        return;
-    }
-    let t = wide(byte_at(input, 0)) + wide(byte_at(input, 1));
-    let used = least(t * 4, MOST_RECORD_BYTES);
+    let mut records: [u8; MOST_RECORD_BYTES] = zeros();
+    let mut rows: [u8; MOST_ROW_BYTES] = zeros();
+    let compiled = match compile_nodes(input, &mut words, &mut records, &mut rows) {
+        Ok(compiled) => compiled,
+        Err(refusal) => return out.refuse(refusal),
+    };
+    let (job, _) = job_in(input);
+    let (nodes, _) = words.as_chunks::<3>();
+    let (records, _) = records.as_chunks::<4>();
+    let (rows, _) = rows.as_chunks::<2>();
     let widths = compiled.widths;
-    let mut out = printing::memory();
-    draw_all(
-        rt,
-        &mut out,
-        &words,
-        wide16(compiled.nodes),
-        &records[..used],
-        &rows,
-        &widths,
-        wide(compiled.cells),
-    );
+    let picture = Picture {
+        nodes: front(nodes, usize::from(compiled.nodes)),
+        records: front(records, job.n + job.m),
+        rows,
+        widths: &widths,
+        cells: usize::from(compiled.cells),
+    };
+    picture.draw(out)
 }
 
 // The same of standard input. Of more than 4,096 bytes the first 4,096 decide the answer.
 pub fn draw_input(rt: HostRuntime) {
-    let mut buf = printing::buffer();
-    let n = printing::read_full(rt.stdin(), &mut buf);
-    draw(rt, &buf[..n]);
+    let mut memory: [u8; 4096] = zeros();
+    let input = printing::read_full(rt, &mut memory);
+    let mut out = Output::new(rt);
+    let said = draw(&mut out, input);
+    out.end(said);
 }

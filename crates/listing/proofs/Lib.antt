@@ -1,7 +1,5 @@
 -- Laws that more than one source file needs, or that other crates may cite: those are `pub`. Laws of one source file stand in its folder.
 pub mod BlockFits
-mod BlockOfInput
-mod EvaluatedInput
-mod InputParts
+mod InputCascade
 pub mod LineOrder
 pub mod LongInput
