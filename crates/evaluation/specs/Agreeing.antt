@@ -1,6 +1,6 @@
 -- The rows that the code reads of a cell, by numbers: one for each rail word of the set and each filling of the cell's unknown inputs.
 -- Assumes nothing.
-use Rattle.std.specs.Prelude.{◌≡◌, ℕ, zero, suc, ◌+◌, ◌*◌, ◌^◌, ◌≤◌, cond, List, length, get_or, set}
+use Rattle.std.specs.Prelude.{◌≡◌, ℕ, zero, suc, ◌+◌, ◌*◌, ◌^◌, ◌≤◌, ◌<◌, cond, List, length, get_or, set}
 use Rattle.std.specs.Int.Bits.{bit_and, bit_or}
 use Rattle.laws.specs.Bits.{has}
 use Rattle.laws.specs.Turns.{in_turn}
@@ -22,12 +22,15 @@ pub record Within (n : ℕ) (s : List ℕ) : Type 0 where
   pub long : length s ≡ rail_words
   pub rest : (q : ℕ) → n ≤ q → word_at s q ≡ 0
 
+abbrev pub seen_with : ℕ → Seen → Seen
+seen_with x s = record { some = bit_or s.some x; each = bit_and s.each x }
+
 abbrev pub gathered_of : Seen → List ℕ → Gathered
 gathered_of s next = record { some = s.some; each = s.each; next = next }
 
 -- rail words below 64 kept apart from the set next, as bits of one word
 abbrev pub few_of : Few → List ℕ → Gathered
-few_of f next = record { some = f.some; each = f.each; next = set next 0 (bit_or (get_or next 0 0) f.rails) }
+few_of f next = record { some = f.seen.some; each = f.seen.each; next = set next 0 (bit_or (get_or next 0 0) f.rails) }
 
 -- the numbers made of bits of free, from 0 on: the carry goes over the bits of mask, which are the others
 unfoldable pub part_of : ℕ → ℕ → ℕ → ℕ
@@ -48,10 +51,22 @@ pub record Whole (mask free : ℕ) : Type 0 where
   pub few : inputs ≤ 12
   pub all : mask + free + 1 ≡ 2 ^ inputs
 
+-- the numbers of a cell's rows are small
+pub record Small (p : Addresses) : Type 0 where
+  pub whole : Whole p.mask p.free
+  pub at : p.at ≤ 32768
+  pub block : p.block ≤ 4096
+  pub words : p.words ≤ 64
+  pub low : p.low < 4096
+
 module _ (bytes : List ℕ) (p : Addresses) where
+  -- the rows of the fillings, of which the first begins at first
+  abbrev pub of_first : ℕ → Gathered → Gathered
+  of_first first = in_turn p.count (rail_row bytes first p.mask p.free p.low)
+
   -- the rows of the rail word whose rows begin at base
   unfoldable pub of_rail : ℕ → Gathered → Gathered
-  of_rail base = in_turn p.count (rail_row bytes (base + p.value) p.mask p.free p.low)
+  of_rail base = of_first (base + p.value)
 
   -- of the rail words in the word x of a set, the first of which has its rows from base on
   unfoldable pub of_bit : ℕ → ℕ → ℕ → Gathered → Gathered

@@ -1,6 +1,6 @@
 -- A cell of which some records are read, as the code holds it.
 -- Assumes nothing.
-use Rattle.std.specs.Prelude.{ℕ, zero, suc, ◌+◌, ◌-◌, ◌*◌, ◌/◌, ◌^◌, cond, List, [], ◌∷◌, eqb, length}
+use Rattle.std.specs.Prelude.{ℕ, zero, suc, ◌≤◌, ◌<◌, ◌+◌, ◌-◌, ◌*◌, ◌/◌, ◌^◌, cond, List, [], ◌∷◌, eqb, length}
 use Rattle.std.specs.Int.Bits.{bit_and}
 use Rattle.laws.specs.Bits.{bit}
 use Rattle.sheet_spec.specs.Job.{is_input}
@@ -8,6 +8,14 @@ use Rattle.stored_spec.specs.StoredForm.{Reading, variable, cut_byte, with_varia
 use Rattle.stored_spec.specs.Run.{address}
 pub use Rattle.evaluation.specs.declared.cells.Begun.{Begun}
 pub use Rattle.evaluation.specs.declared.gather.Addresses.{Addresses}
+
+-- what a cell begun keeps to
+pub record Few (c : Begun) : Type 0 where
+  pub ins : c.ins ≤ 20
+  pub outs : c.outs ≤ 20
+  pub mask : c.mask < 2 ^ c.ins
+  pub value : c.value < 2 ^ c.ins
+  pub count : c.count ≤ 2 ^ c.ins
 
 -- the cells that i records end, and the first record of the cell begun after them
 abbrev pub ended_by : List ℕ → ℕ → ℕ

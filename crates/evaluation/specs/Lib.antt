@@ -2,3 +2,4 @@
 pub mod Agreeing
 pub mod BegunCell
 pub mod Answer
+pub mod ReadTo

@@ -22,7 +22,7 @@ ghost use Rattle.panel_calls.specs.StateBytes.{called, new_bytes, admit_bytes, l
 use bank_spec::MOST_BLOCKS;
 use panel_calls::{BankBytes, ScanBytes, StepNumbers, Totals};
 use reduction_spec::{NodeWords, Reached, Reduction, Widths};
-use sheet_spec::{MOST_OUTPUTS, Table};
+use sheet_spec::{Job, MOST_OUTPUTS, Table};
 
 // The release whose archive this is, 65536 * major + 256 * minor + patch: 2.0.0.
 pub const VERSION: u32 = 131072;
@@ -55,7 +55,8 @@ pub fn cascade_sheet_refusal(
 ) -> u8
     ensures { result ≡ sheet_refusal (job n m k l order.now) sheet.now }
 {
-    sheet::refusal(n, m, k, l, order, sheet)
+    let job = Job { n, m, k, l, order };
+    refusals::answer(sheet::refusal(&job, sheet))
 }
 
 // The same; where the answer is 0 the table of the function is written to the front of the lent 32,768 bytes.
@@ -70,7 +71,8 @@ pub fn cascade_sheet_table(
 ) -> u8
     ensures { tabled result table.new ≡ fill_table (job n m k l order.now) sheet.now table.old }
 {
-    sheet::fill_table(n, m, k, l, order, sheet, table)
+    let job = Job { n, m, k, l, order };
+    refusals::answer(sheet::fill_table(&job, sheet, table))
 }
 
 // The reduction: the least of refusals 1 to 7, or 0 and the number of nodes; then widths[h] is the width at height h, for 0 to t - 1, and
@@ -88,7 +90,8 @@ pub fn cascade_reduce(
     ensures { reduced_of result widths.new words.new
         ≡ reduce_as (job n m k l order.now) sheet.now widths.old words.old }
 {
-    reduction::reduce(n, m, k, l, order, sheet, widths, words)
+    let job = Job { n, m, k, l, order };
+    Reduction::from(reduction::reduce(&job, sheet, widths, words))
 }
 
 // Where a walk over the node words from the node at the height ends; bit g of bits is the value of the variable at height g + 1.
@@ -143,7 +146,8 @@ pub fn cascade_compile(
     ensures { compiled_of result nodes.new records.new rows.new widths.new
         ≡ compile_bytes nodes.old records.old rows.old widths.old (job n m k l order.now) sheet.now }
 {
-    panel_calls::compile(n, m, k, l, order, sheet, nodes, records, rows, widths)
+    let job = Job { n, m, k, l, order };
+    panel_calls::compile(&job, sheet, nodes, records, rows, widths)
 }
 
 // Which outputs of a stored cascade are certain where the inputs of the mask are known and are those of the word: 0, and each output is 0, 1 or 2 for
@@ -165,7 +169,7 @@ pub fn cascade_widen(stored: &[u8], bytes: &[u8], records: &mut [u8], rows: &mut
     ensures { written_as result records.new rows.new
         ≡ widen stored.now bytes.now records.old rows.old }
 {
-    row_forms::widen(stored, bytes, records, rows)
+    refusals::answer(row_forms::widen(stored, bytes, records, rows))
 }
 
 // One with two bytes a row, moved to one byte a row: 0, or 12, 10, 11 or 15 and they are as they were.
@@ -173,7 +177,7 @@ pub fn cascade_narrow(stored: &[u8], bytes: &[u8], records: &mut [u8], rows: &mu
     ensures { written_as result records.new rows.new
         ≡ narrow stored.now bytes.now records.old rows.old }
 {
-    row_forms::narrow(stored, bytes, records, rows)
+    refusals::answer(row_forms::narrow(stored, bytes, records, rows))
 }
 
 // A new bank with the scan limit S, and its fresh scan state; 1 where S is out of range, and then both are as they were.

@@ -11,12 +11,11 @@ use Rattle.laws.specs.Lists.{puts}
 use Rattle.laws.proofs.Cases.{by_test, by_equal, cond_yes, cond_no}
 use Rattle.bank_spec.specs.declared.Bank.{Bank}
 use Rattle.bank_spec.specs.declared.Scan.{Scan}
-use Rattle.bank.specs.declared.Started.{Started}
 use Rattle.bank_spec.specs.declared.StepAnswer.{StepAnswer}
 use Rattle.bank_spec.specs.declared.StepAnswer.TheVariants.{Went, Idle, Refused}
 use Rattle.bank_spec.specs.State.{State, empty_bank, at_rest, limit_refused, state_of}
 use Rattle.bank_spec.specs.Calls.{accepted, refused, answer_of, numbered, After}
-use Rattle.bank.specs.Given.{given_number, given_answer, started}
+use Rattle.bank.specs.Given.{Started, given_number, given_answer, started}
 use Rattle.panel_calls.specs.StateBytes.{called, bank_in, scan_in, state_in, bank_bytes, scan_bytes, changes, number_of, step_numbers, bank_lent, scan_lent, made}
 
 abbrev put_bank : Bank → List ℕ → List ℕ
@@ -80,33 +79,22 @@ module _ (n : ℕ) (k : Bank) (s : Scan) (rows : List ℕ) (r : After State) (e 
   scan-refused old z = scan-kept (given_number n k s rows) r e old (other-changes n z)
 
 -- of a step
+unread : (a : StepAnswer) → ((b c : ℕ) → a ≡ Went b c → ⊥) → changes (answer_of a) ≡ false
+unfolding answer_of changes
+unread (Went b c) n = absurd (n b c refl)
+unread Idle n = refl
+unread (Refused r) n = refl
+
 module _ (a : StepAnswer) (k : Bank) (s : Scan) (rows : List ℕ) (r : After State) (e : given_answer a k s rows ≡ r) where
-  numbers_given : {x : StepAnswer} → a ≡ x → step_numbers (answer_of x) ≡ step_numbers r.answer
-  numbers_given p = ap (λ (y : StepAnswer). step_numbers (answer_of y)) (sym p) ∙ ap (λ (y : After State). step_numbers y.answer) e
-
-  pub went_given : {b c : ℕ} → a ≡ Went b c → record { kind = 1; block = b; cell = c; refusal = 0 } ≡ step_numbers r.answer
-  unfolding answer_of step_numbers
-  went_given p = numbers_given p
-
-  pub idle_given : a ≡ Idle → record { kind = 0; block = 0; cell = 0; refusal = 0 } ≡ step_numbers r.answer
-  unfolding answer_of step_numbers
-  idle_given p = numbers_given p
-
-  pub refused_given : {n : ℕ} → a ≡ Refused n → record { kind = 2; block = 0; cell = 0; refusal = n } ≡ step_numbers r.answer
-  unfolding answer_of step_numbers
-  refused_given p = numbers_given p
+  pub numbers_given : step_numbers (answer_of a) ≡ step_numbers r.answer
+  numbers_given = ap (λ (y : After State). step_numbers y.answer) e
 
   pub scan-went : {b c : ℕ} (old : List ℕ) → a ≡ Went b c → put_scan s old ≡ scan_lent r old
   unfolding answer_of changes
   scan-went old p = scan_changed (given_answer a k s rows) r e old (ap (λ (y : StepAnswer). changes (answer_of y)) p)
 
-  pub scan-idle : (old : List ℕ) → a ≡ Idle → old ≡ scan_lent r old
-  unfolding answer_of changes
-  scan-idle old p = scan-kept (given_answer a k s rows) r e old (ap (λ (y : StepAnswer). changes (answer_of y)) p)
-
-  pub scan_unread : {n : ℕ} (old : List ℕ) → a ≡ Refused n → old ≡ scan_lent r old
-  unfolding answer_of changes
-  scan_unread old p = scan-kept (given_answer a k s rows) r e old (ap (λ (y : StepAnswer). changes (answer_of y)) p)
+  pub scan-unread : (old : List ℕ) → ((b c : ℕ) → a ≡ Went b c → ⊥) → old ≡ scan_lent r old
+  scan-unread old n = scan-kept (given_answer a k s rows) r e old (unread a n)
 
 -- a call on the state that bytes are
 pub called_in : (F : State → After State) (bank scan rows : List ℕ) (k : Bank) (s : Scan) {x : After State} → x ≡ F (state_of k s rows)

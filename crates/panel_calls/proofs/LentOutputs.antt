@@ -9,8 +9,7 @@ use Rattle.laws.specs.Lists.{tab}
 use Rattle.laws.proofs.Cases.{by_test, cond_yes, cond_no}
 use Rattle.stored_spec.specs.StoredForm.{well_formed}
 use Rattle.evaluation_spec.specs.Known.{Evaluated, refused, evaluated, certain, evaluate}
-use Rattle.evaluation.specs.Answer.{evaluation_of}
-use Rattle.evaluation.specs.declared.Evaluation.{Evaluation}
+use Rattle.evaluation.specs.Answer.{Evaluation, evaluation_of}
 use Rattle.panel_calls.specs.Exported.{known_of, known_bytes}
 
 module _ (R bytes : List ℕ) (known w : ℕ) (old : List ℕ) (m : Evaluation) (e : m ≡ evaluation_of (evaluate R bytes known w)) where

@@ -3,17 +3,16 @@
 use Rattle.std.specs.Prelude.{ℕ, cond, List, eqb, get_or}
 use Rattle.laws.specs.Lists.{puts}
 use Rattle.sheet_spec.specs.Job.{Job}
-use Rattle.cutting.specs.Outcome.{outcome}
+use Rattle.cutting.specs.Outcome.{Answered, outcome}
 use Rattle.evaluation_spec.specs.Known.{Evaluated, refused, evaluated}
-use Rattle.cutting.specs.declared.Compilation.{Compilation}
 pub use Rattle.panel_calls.specs.declared.Totals.{Totals}
 
 -- a refusal, or 0 and the totals
-unfoldable pub totals_of : Compilation → Totals
+unfoldable pub totals_of : Answered → Totals
 totals_of c = record { refusal = c.refusal; nodes = c.nodes; cells = c.cells; rows = c.rows; bits = c.bits }
 
 -- 20 lent widths after: unchanged on a refusal, else the widths at the heights 0 to t - 1, then zeros
-unfoldable pub widths_lent : Compilation → List ℕ → List ℕ
+unfoldable pub widths_lent : Answered → List ℕ → List ℕ
 widths_lent c old = let made = puts 20 (λ h. get_or c.widths h 0) old in cond (eqb c.refusal 0) made old
 
 -- the answer, and each memory that is lent, after

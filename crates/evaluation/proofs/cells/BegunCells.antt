@@ -20,7 +20,7 @@ use Rattle.stored_spec.specs.Run.{address}
 use Rattle.stored_spec.proofs.StoredCells.{ended_cell, begun-few}
 use Rattle.stored.proofs.RowBits.{address_more}
 use Rattle.evaluation_spec.proofs.Words.{gather_lt}
-use Rattle.evaluation.specs.BegunCell.{Begun, ended_by, start_of, more_fillings, fillings, with_var, next_cell, begun_by, begun_at, begun_with}
+use Rattle.evaluation.specs.BegunCell.{Few, ended_by, start_of, more_fillings, fillings, with_var, next_cell, begun_by, begun_at, begun_with}
 use Rattle.evaluation.proofs.Enumeration.{fillings_more}
 use Rattle.evaluation.proofs.cells.CellRecords.{cell_is, ended-next, ended_same}
 
@@ -34,14 +34,6 @@ fillings-few known (i ∷ is) n =
     omega (arith, fillings-few known is m, h, e)
 
 module _ (R : List ℕ) (known w : ℕ) where
-  -- what a cell begun keeps to
-  pub record Few (c : Begun) : Type 0 where
-    pub ins : c.ins ≤ 20
-    pub outs : c.outs ≤ 20
-    pub mask : c.mask < 2 ^ c.ins
-    pub value : c.value < 2 ^ c.ins
-    pub count : c.count ≤ 2 ^ c.ins
-
   pub begun-keeps : (i : ℕ) → i ≤ 20 → Few (begun_at R known w i)
   unfolding begun_at begun_by
   begun-keeps i l =

@@ -20,7 +20,7 @@ use Rattle.evaluation_spec.specs.RailSets.{Gathered, none_read, is_in, gathered,
 use Rattle.stored_spec.proofs.LowerRails.{inputs-few, few-lower}
 use Rattle.evaluation_spec.proofs.Occurring.{outputs-few, rails-small}
 use Rattle.evaluation_spec.proofs.Words.{gather_lt, gather_and}
-use Rattle.evaluation.specs.Agreeing.{Within, Addresses, Whole, of_set}
+use Rattle.evaluation.specs.Agreeing.{Within, Addresses, Small, of_set}
 use Rattle.evaluation.specs.BegunCell.{Begun, ended_by, start_of, addresses_of, begun_by, begun_with}
 use Rattle.evaluation.proofs.Enumeration.{mask_of, value_of, count_of}
 use Rattle.evaluation.proofs.ReadCell.{OfCell, cell-gathered}
@@ -55,12 +55,7 @@ module _ (R bytes : List ℕ) (known w i : ℕ) (formed : well_formed R bytes �
   -- the rows of each rail word of the set lie within the cascade's, and the numbers are small
   abbrev pub Readable : List ℕ → Addresses → Type 0
   Readable s p =
-      ((r : ℕ) → r < 4096 → is_in s r ≡ true → p.at + r * p.block + (p.value + p.free) < length bytes / 2) × Whole p.mask p.free
-      × (p.at ≤ 32768)
-      × (p.block ≤ 4096)
-      × (p.words ≤ 64)
-      × (p.low < 4096)
-      × Within p.words s
+      ((r : ℕ) → r < 4096 → is_in s r ≡ true → p.at + r * p.block + (p.value + p.free) < length bytes / 2) × Small p × Within p.words s
 
   there : k < cell_count R
   there = cell_there R i within cut
@@ -142,7 +137,14 @@ module _ (R bytes : List ℕ) (known w i : ℕ) (formed : well_formed R bytes �
         let b : 2 ^ c.ins ≤ 4096 = pow_mono {j = 12} (omega (arith, h.few_in)) in
         let u : 2 ^ c.upper ≤ 4096 = pow_mono {j = 12} (omega (arith, h.few_in)) in
         let low : 2 ^ rail_byte R i ≤ 4096 = pow_mono {j = 12} h.few-low in
-        (λ r l e. rail-within r e, record { inputs = c.ins; few = omega (arith, h.few_in); all = omega (arith, mask_lt) }, omega (arith, h.rows_in, h.rows_few), b, omega (arith, u), omega (arith, low, pow_pos (rail_byte R i)), subst (λ (x : ℕ). Within ((2 ^ x + 63) / 64) (rail_set known w R bytes k)) (sym h.upper) (set-within known w R bytes records k there))
+        let small : Small p = record {
+          whole = record { inputs = c.ins; few = omega (arith, h.few_in); all = omega (arith, mask_lt) };
+          at = omega (arith, h.rows_in, h.rows_few);
+          block = b;
+          words = omega (arith, u);
+          low = omega (arith, low, pow_pos (rail_byte R i));
+        } in
+        (λ r l e. rail-within r e, small, subst (λ (x : ℕ). Within ((2 ^ x + 63) / 64) (rail_set known w R bytes k)) (sym h.upper) (set-within known w R bytes records k there))
 
     gathers : of_set bytes p (rail_set known w R bytes k) p.words none_read ≡ gathered known w R bytes k (rail_set known w R bytes k)
     gathers = cell-gathered known w R bytes k (rail_set known w R bytes k) p of_cell few-rails

@@ -13,20 +13,19 @@ use Rattle.evaluation_spec.proofs.Exact.{told-certain}
 use Rattle.evaluation.specs.Answer.{evaluation_of}
 use Rattle.evaluation.proofs.evaluate.Goals as goal
 
-pub certain_outputs-outputs-requires : goal.certain_outputs-outputs-requires
-certain_outputs-outputs-requires c = sym c.well_formed-2.ensures ∙ c.if-well_formed.true
-
-pub returns-then-well_formed : goal.returns-then-well_formed
+pub returns-then-not-well_formed : goal.returns-then-not-well_formed
 unfolding evaluate
-returns-then-well_formed c =
+returns-then-not-well_formed c =
     let a = c.args in
     let R = a.records.now in
     let bytes = a.rows.now in
-    let yes = sym c.well_formed-2.ensures ∙ c.if-well_formed.true in
-    let same : tab 8 (told a.known a.word R bytes) ≡ tab 8 (certain R bytes a.known a.word) =
-    sym (tab_ext (certain R bytes a.known a.word) (told a.known a.word R bytes) 8 (told-certain R bytes yes a.known a.word)) in
-    ap (λ (l : List ℕ). record { refusal = 0; outputs = l }) (c.certain_outputs-outputs.ensures ∙ same)
-    ∙ ap evaluation_of (sym (cond_yes (well_formed R bytes) (evaluated (tab 8 (certain R bytes a.known a.word))) (refused 12) yes))
+    ap evaluation_of
+    (sym
+    (cond_no (well_formed R bytes) (evaluated (tab 8 (certain R bytes a.known a.word))) (refused 12)
+    (sym c.well_formed-2.ensures ∙ c.if-not-well_formed.true)))
+
+pub certain_outputs-requires : goal.certain_outputs-requires
+certain_outputs-requires c = sym c.well_formed-2.ensures ∙ c.if-not-well_formed.false
 
 pub returns : goal.returns
 unfolding evaluate
@@ -34,7 +33,8 @@ returns c =
     let a = c.args in
     let R = a.records.now in
     let bytes = a.rows.now in
-    ap evaluation_of
-    (sym
-    (cond_no (well_formed R bytes) (evaluated (tab 8 (certain R bytes a.known a.word))) (refused 12)
-    (sym c.well_formed-2.ensures ∙ c.if-well_formed.false)))
+    let yes = sym c.well_formed-2.ensures ∙ c.if-not-well_formed.false in
+    let same : tab 8 (told a.known a.word R bytes) ≡ tab 8 (certain R bytes a.known a.word) =
+    sym (tab_ext (certain R bytes a.known a.word) (told a.known a.word R bytes) 8 (told-certain R bytes yes a.known a.word)) in
+    ap (λ (l : List ℕ). record { refusal = 0; outputs = l }) (c.certain_outputs.ensures ∙ same)
+    ∙ ap evaluation_of (sym (cond_yes (well_formed R bytes) (evaluated (tab 8 (certain R bytes a.known a.word))) (refused 12) yes))

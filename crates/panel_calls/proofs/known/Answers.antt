@@ -1,16 +1,14 @@
 -- `panel_calls::known` meets its contract.
 -- Assumes nothing.
+use mathlib.Core.Path.{refl}
+use Rattle.refusals.proofs.Promises.{never-zero}
 use Rattle.panel_calls.proofs.LentOutputs.{lent-certain, lent-kept}
 use Rattle.panel_calls.proofs.known.Goals as goal
 
-pub returns-then-made-eq0 : goal.returns-then-made-eq0
-returns-then-made-eq0 c =
-    let a = c.args in
-    let e = c.evaluate-made in
-    lent-certain a.records.now a.rows.now a.known a.word a.outputs.now e.result e.ensures c.if-made-eq0.true
+pub returns-in-Ok : goal.returns-in-Ok
+returns-in-Ok c = let a = c.args in lent-certain a.records.now a.rows.now a.known a.word a.outputs.now _ c.in-Ok.ensures refl
 
-pub returns-else-made-eq0 : goal.returns-else-made-eq0
-returns-else-made-eq0 c =
+pub returns-in-Err : goal.returns-in-Err
+returns-in-Err c =
     let a = c.args in
-    let e = c.evaluate-made in
-    lent-kept a.records.now a.rows.now a.known a.word a.outputs.now e.result e.ensures c.if-made-eq0.false
+    rw c.from.ensures (lent-kept a.records.now a.rows.now a.known a.word a.outputs.now _ c.in-Err.ensures (never-zero c.in-Err.unformed))

@@ -1,20 +1,55 @@
 -- Laws of the bank and the scan state as bytes: how they are stored, and how they are read.
 -- Assumes nothing.
-use mathlib.Core.Path.{◌≡◌, refl, sym, ◌∙◌, ap}
-use mathlib.Core.Bool.{not}
+use mathlib.Core.Path.{◌≡◌, refl, sym, ◌∙◌, ap, ap₂}
+use mathlib.Core.Bool.{cond, not}
 use mathlib.Core.List.{List, [], ◌∷◌, ◌++◌, append_assoc}
-use Prim.Native.Nat.{ℕ, ◌+◌, ◌*◌, ◌%◌, ◌/◌}
+use Prim.Native.Nat.{ℕ, ◌+◌, ◌*◌, ◌%◌, ◌/◌, ◌<◌, ◌≤◌}
 use native.Mathlib.Omega.{arith}
 use lib.Dec.{eqb}
-use lib.ListN.{length, get_or, set, length-append, get_or-append}
-use lib.Seq.{get_or-append-add}
+use lib.ListN.{length, get_or, set, take, drop, length-append, get_or-append, length-drop}
+use lib.Seq.{get_or-append-add, get_or-take, get_or-drop, drop-drop, length-take-le}
 use Rattle.laws.specs.Bits.{flag}
 use Rattle.laws.specs.Lists.{tab, puts, puts_at}
-use Rattle.laws.proofs.Lists.{length-tab, get_or-tab}
-use Rattle.laws.proofs.Puts.{puts_ext, puts-run, puts_one}
+use Rattle.laws.proofs.Lists.{length-tab, get_or-tab, by_elements}
+use Rattle.laws.proofs.Puts.{copied_at, puts_at-next, puts_ext, puts-run, puts_one}
 use Rattle.bank_spec.specs.declared.Bank.{Bank}
 use Rattle.bank_spec.specs.declared.Scan.{Scan}
 use Rattle.panel_calls.specs.StateBytes.{pair_at, bank_in, scan_in, bank_bytes, word_byte, scan_bytes}
+
+-- a part read, and a part stored
+pub part-read : (l : List ℕ) (at n : ℕ) → at + n ≤ length l → take n (drop at l) ≡ tab n (λ i. get_or l (at + i) 0)
+part-read l at n h =
+    sym (by_elements (take n (drop at l)) n (λ i. get_or l (at + i) 0)
+    (length-take-le n (drop at l) (omega (arith, length-drop at l)))
+    (λ i k. sym (get_or-take n (drop at l) i 0 k ∙ get_or-drop at l i 0)))
+
+pub part-stored : (part l : List ℕ) (at n : ℕ) → length part ≡ n → at + n ≤ length l
+    → take at l ++ (part ++ drop n (drop at l)) ≡ puts_at at n (λ i. get_or part i 0) l
+part-stored part l at n e h =
+    ap (λ (t : List ℕ). take at l ++ (part ++ t)) (drop-drop n at l) ∙ sym (append_assoc (take at l) part (drop (at + n) l))
+    ∙ (rw e at (sym (copied_at l at part (omega (arith, e, h)))))
+
+-- the two bytes of a number
+pub two-lower : (x : ℕ) {bytes : List ℕ} → bytes ≡ x % 256 ∷ x / 256 % 256 ∷ [] → get_or bytes 0 0 ≡ x % 256
+two-lower x e = ap (λ (l : List ℕ). get_or l 0 0) e
+
+pub two-upper : (x : ℕ) {bytes : List ℕ} → x < 65536 → bytes ≡ x % 256 ∷ x / 256 % 256 ∷ [] → get_or bytes 1 0 ≡ x / 256
+two-upper x h e = let m : x / 256 % 256 ≡ x / 256 = omega arith in ap (λ (l : List ℕ). get_or l 1 0) e ∙ m
+
+-- of the words, one word's bytes more
+pub two-put : (ws : List ℕ) (i : ℕ) (l s : List ℕ) {low high : ℕ} → low ≡ get_or ws i 0 % 256 → high ≡ get_or ws i 0 / 256
+    → s ≡ puts_at 5 (2 * i) (word_byte ws) l → set (set s (5 + 2 * i) low) (5 + 2 * i + 1) high ≡ puts_at 5 (2 * (i + 1)) (word_byte ws) l
+unfolding word_byte
+two-put ws i l s {low} {high} p q e =
+    let half : 2 * i / 2 ≡ i = omega arith in
+    let even : 2 * i % 2 ≡ 0 = omega arith in
+    let next : (2 * i + 1) / 2 ≡ i = omega arith in
+    let odd : (2 * i + 1) % 2 ≡ 1 = omega arith in
+    let n : 2 * i + 1 + 1 ≡ 2 * (i + 1) = omega arith in
+    let m : 5 + 2 * i + 1 ≡ 5 + (2 * i + 1) = omega arith in
+    let first = puts_at-next (word_byte ws) 5 (2 * i) l s _ e (p ∙ sym (ap₂ (λ (a b : ℕ). let w = get_or ws a 0 in cond (eqb b 0) (w % 256) (w / 256)) half even)) in
+    let second = puts_at-next (word_byte ws) 5 (2 * i + 1) l _ _ first (q ∙ sym (ap₂ (λ (a b : ℕ). let w = get_or ws a 0 in cond (eqb b 0) (w % 256) (w / 256)) next odd)) in
+    ap (λ (k : ℕ). set (set s (5 + 2 * i) low) k high) m ∙ second ∙ ap (λ (k : ℕ). puts_at 5 k (word_byte ws) l) n
 
 -- bytes stored to the front, and a run of more
 run-stored : (h : List ℕ) (f : ℕ → ℕ) (b m : ℕ) (l s : List ℕ) → length h ≡ b → s ≡ puts b (λ i. get_or h i 0) l

@@ -33,8 +33,8 @@ overflow_mul-rail c =
     let l = c.loop-left in
     let z = c.lowest-skipped in
     let within = bit_left a.word l.b l.invariant.1 c.ranges.word.fits z.result z.ensures.2 in
-    let h = mul-le-mul_right {m = l.b + z.result} {n = 64} a.p.block (omega (arith, within)) in
-    omega (arith, h, pre.3)
+    let h = mul-le-mul_right {m = l.b + z.result} {n = 64} a.p.now.block (omega (arith, within)) in
+    omega (arith, h, pre.1.block)
 
 pub overflow_add-p : goal.overflow_add-p
 overflow_add-p c =
@@ -43,8 +43,8 @@ overflow_add-p c =
     let l = c.loop-left in
     let z = c.lowest-skipped in
     let within = bit_left a.word l.b l.invariant.1 c.ranges.word.fits z.result z.ensures.2 in
-    let h = mul-le-mul_right {m = l.b + z.result} {n = 64} a.p.block (omega (arith, within)) in
-    omega (arith, h, pre.2, pre.3)
+    let h = mul-le-mul_right {m = l.b + z.result} {n = 64} a.p.now.block (omega (arith, within)) in
+    omega (arith, h, pre.1.at, pre.1.block)
 
 pub overflow_add-p-in-loop-left : goal.overflow_add-p-in-loop-left
 overflow_add-p-in-loop-left c =
@@ -54,8 +54,8 @@ overflow_add-p-in-loop-left c =
     let z = c.lowest-skipped in
     let within = bit_left a.word l.b l.invariant.1 c.ranges.word.fits z.result z.ensures.2 in
     let fits = pre.0 (l.b + z.result) within (sym (rest-bit a.word l.b l.invariant.1 z.result) ∙ z.ensures.2) in
-    let h = mul-le-mul_right {m = l.b + z.result} {n = 64} a.p.block (omega (arith, within)) in
-    omega (arith, h, pre.2, pre.3, fits)
+    let h = mul-le-mul_right {m = l.b + z.result} {n = 64} a.p.now.block (omega (arith, within)) in
+    omega (arith, h, pre.1.at, pre.1.block, fits)
 
 pub read_either-few-requires : goal.read_either-few-requires
 read_either-few-requires c =
@@ -65,7 +65,7 @@ read_either-few-requires c =
     let z = c.lowest-skipped in
     let within = bit_left a.word l.b l.invariant.1 c.ranges.word.fits z.result z.ensures.2 in
     let fits = pre.0 (l.b + z.result) within (sym (rest-bit a.word l.b l.invariant.1 z.result) ∙ z.ensures.2) in
-    (omega (arith, fits), pre.1, pre.4)
+    (omega (arith, fits), pre.1, pre.2)
 
 pub overflow_shr-left : goal.overflow_shr-left
 overflow_shr-left c = c.lowest-skipped.ensures.0
@@ -99,7 +99,7 @@ loop-left-preserved c =
       omega (arith, within),
       left_next a.word l.b l.invariant.1 z.result,
       λ s.
-          word_next a.rows.now a.p a.word a.p.at (record { some = 0; each = 65535; next = s }) l.b z.result l.invariant.1 z.ensures.1 z.ensures.2 refl (l.invariant.2 s)
+          word_next a.rows.now a.p.now a.word a.p.now.at (record { some = 0; each = 65535; next = s }) l.b z.result l.invariant.1 z.ensures.1 z.ensures.2 refl (l.invariant.2 s)
           (few_join _ _ l.rails _ s ∙ c.read_either-few.ensures (set s 0 (bit_or (get_or s 0 0) l.rails))),
     )
 
@@ -107,4 +107,4 @@ pub returns : goal.returns
 returns c =
     let a = c.args in
     let l = c.loop-left in
-    λ s. word-ends a.rows.now a.p a.word a.p.at (record { some = 0; each = 65535; next = s }) l.b l.invariant.0 l.invariant.1 c.loop-left-test.false (l.invariant.2 s)
+    λ s. word-ends a.rows.now a.p.now a.word a.p.now.at (record { some = 0; each = 65535; next = s }) l.b l.invariant.0 l.invariant.1 c.loop-left-test.false (l.invariant.2 s)

@@ -11,7 +11,7 @@ use Rattle.evaluation.proofs.gather.gather_word.Given as goal
 abbrev pub invariant-loop-left : goal.invariant-loop-left
 invariant-loop-left l =
     (l.b ≤ 64) × (l.left ≡ l.word / 2 ^ l.b)
-    × ((s : List ℕ) → few_as l.some l.each l.rails s ≡ in_turn l.b (of_bit l.rows l.p l.word l.p.at) (record { some = 0; each = 65535; next = s }))
+    × ((s : List ℕ) → few_as l.g.some l.g.each l.rails s ≡ in_turn l.b (of_bit l.rows l.p l.word l.p.at) (record { some = 0; each = 65535; next = s }))
 
 abbrev pub decreases-loop-left : goal.decreases-loop-left
 decreases-loop-left l = 64 - l.b

@@ -10,18 +10,18 @@ use Rattle.evaluation.proofs.gather.read_all.Goals as goal
 
 pub loop-j-init : goal.loop-j-init
 unfolding one_rail
-loop-j-init c = (omega arith, λ s. few-none _ _ s)
+loop-j-init c = λ s. few-none _ _ s
 
 pub loop-j-preserved : goal.loop-j-preserved
 loop-j-preserved c =
     let l = c.loop-j in
     let a = c.args in
-    (omega (arith, c.loop-j-test.true), λ s. plain_next a.rows.now a.first l.j (gathered_of a.seen s) s c.row_at-row.ensures (l.invariant.1 s))
+    λ s. rw c.with-g.ensures (plain_next a.rows.now a.first l.j (gathered_of a.seen s) s c.row_at.ensures (l.invariant s))
 
 pub returns : goal.returns
 returns c = λ s.
     let l = c.loop-j in
     let a = c.args in
-    let e : l.j ≡ a.count = omega (arith, l.invariant.0, c.loop-j-test.false) in
-    ap (λ (b : ℕ). few_as l.some l.each b s) (sym (ap one_rail e ∙ one_rail_lem a.count c.requires.1)) ∙ l.invariant.1 s
+    let e : l.j ≡ a.count = omega (arith, c.loop-j-test.false) in
+    ap (λ (b : ℕ). few_as l.g.some l.g.each b s) (sym (ap one_rail e ∙ one_rail_lem a.count c.requires.1)) ∙ l.invariant s
     ∙ ap (λ (n : ℕ). in_turn n (plain_row a.rows.now a.first 0) (gathered_of a.seen s)) e

@@ -24,43 +24,36 @@ gather_word-few-requires c =
     let a = c.args in
     let pre = c.requires in (
       λ b k e.
-          omega (arith, pre.0 (0 * 64 + b) (omega (arith, k)) (in_at a.set.now 0 b k ∙ e), rail_place a.p.at 0 b a.p.block),
+          omega (arith, pre.0 (0 * 64 + b) (omega (arith, k)) (in_at a.set.now 0 b k ∙ e), rail_place a.p.now.at 0 b a.p.now.block),
       pre.1,
-      pre.2,
-      pre.3,
-      (tested a.p.words a.p.low c.if-p.true).1,
+      (tested a.p.now.words a.p.now.low c.if-p.true).1,
     )
 
 pub returns-then-p : goal.returns-then-p
 returns-then-p c =
     let a = c.args in
     let pre = c.requires in
-    let one = (tested a.p.words a.p.low c.if-p.true).0 in
-    let is = subst (λ (n : ℕ). Within n a.set.now) one pre.6 in
-    (ap (gathered_of _) (one_word a.set.now _ is) ∙ c.gather_word-few.ensures no_rails ∙ sym (one_place a.rows.now a.p a.set.now none_read one), pre.7)
-
-pub read_set-seen-requires : goal.read_set-seen-requires
-read_set-seen-requires c =
-    let pre = c.requires in
-    (pre.0, pre.1, pre.2, pre.3, pre.4, pre.5)
+    let one = (tested a.p.now.words a.p.now.low c.if-p.true).0 in
+    let is = subst (λ (n : ℕ). Within n a.set.now) one pre.2 in
+    (ap (gathered_of _) (one_word a.set.now _ is) ∙ c.gather_word-few.ensures no_rails ∙ sym (one_place a.rows.now a.p.now a.set.now none_read one), pre.3)
 
 pub overflow_add-p : goal.overflow_add-p
-overflow_add-p c = omega (arith, c.requires.5)
+overflow_add-p c = omega (arith, c.requires.1.low)
 
 pub move_words-requires : goal.move_words-requires
-move_words-requires c = omega (arith, c.requires.5)
+move_words-requires c = omega (arith, c.requires.1.low)
 
 pub returns : goal.returns
 returns c =
     let a = c.args in
     let pre = c.requires in
-    let p = a.p in
+    let p = a.p.now in
     let n = p.low / 64 + 1 in
     let read = c.read_set-seen.ensures in
     let move = c.move_words.ensures in
-    let g = read.0 ∙ ap (λ (l : List ℕ). of_set a.rows.now p a.set.now p.words (record { some = 0; each = 65535; next = l })) pre.7 in
+    let g = read.0 ∙ ap (λ (l : List ℕ). of_set a.rows.now p a.set.now p.words (record { some = 0; each = 65535; next = l })) pre.3 in
     let next = ap (λ (x : Gathered). x.next) g in
     let few : Within n (of_set a.rows.now p a.set.now p.words none_read).next = set-kept a.rows.now p a.set.now p.words none_read (none_within n) in
     let is = subst (λ (l : List ℕ). Within n l) (sym next) few in
-    let same = move.0 ∙ ap (puts n (word_at _)) read.1 ∙ moved n _ is p.words a.set.now pre.6 in
+    let same = move.0 ∙ ap (puts n (word_at _)) read.1 ∙ moved n _ is p.words a.set.now pre.2 in
     (ap (gathered_of _) same ∙ g, move.1 ∙ left n _ is)

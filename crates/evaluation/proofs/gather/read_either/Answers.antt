@@ -19,38 +19,36 @@ tested mask count free e =
     let (m, n) = and_split (eqb mask 0) (eqb count (free + 1)) e in
     (eqb-true mask 0 m, eqb-true count (free + 1) n)
 
-pub overflow_add-free : goal.overflow_add-free
-overflow_add-free c = omega (arith, whole-small c.requires.1)
+pub overflow_add-p : goal.overflow_add-p
+overflow_add-p c = omega (arith, whole-small c.requires.1.whole)
 
 pub read_all-requires : goal.read_all-requires
 read_all-requires c =
-    let a = c.args in
-    let pre = c.requires in
-    let t = tested a.mask a.count a.free c.if-mask-count.true in
-    (omega (arith, pre.0, t.1), omega (arith, t.1))
+    let p = c.args.p.now in
+    let t = tested p.mask p.count p.free c.if-p.true in
+    (omega (arith, c.requires.0, t.1), omega (arith, t.1))
 
-pub returns-then-low-count : goal.returns-then-low-count
-returns-then-low-count c =
+pub returns-then-p-2 : goal.returns-then-p-2
+returns-then-p-2 c =
     let a = c.args in
+    let p = a.p.now in
     let pre = c.requires in
-    let t = tested a.mask a.count a.free c.if-mask-count.true in
+    let t = tested p.mask p.count p.free c.if-p.true in
     λ s. c.read_all.ensures s
-    ∙ ap (λ (r : ℕ). in_turn a.count (plain_row a.rows.now a.first r) (gathered_of a.seen s)) (sym (eqb-true a.low 0 (and_split (eqb a.low 0) (ltb 15 a.count) c.if-low-count.true).0))
-    ∙ plain_rows a.rows.now a.first a.mask a.free a.count a.low (gathered_of a.seen s) pre.1 t.0 t.1
+    ∙ ap (λ (r : ℕ). in_turn p.count (plain_row a.rows.now a.first r) (gathered_of a.seen s)) (sym (eqb-true p.low 0 (and_split (eqb p.low 0) (ltb 15 p.count) c.if-p-2.true).0))
+    ∙ plain_rows a.rows.now a.first p.mask p.free p.count p.low (gathered_of a.seen s) pre.1.whole t.0 t.1
 
 pub read_run-requires : goal.read_run-requires
 read_run-requires c =
-    let a = c.args in
+    let p = c.args.p.now in
     let pre = c.requires in
-    let t = tested a.mask a.count a.free c.if-mask-count.true in
+    let t = tested p.mask p.count p.free c.if-p.true in
     (omega (arith, pre.0, t.1), pre.2)
 
-pub returns-then-mask-count : goal.returns-then-mask-count
-returns-then-mask-count c =
+pub returns-then-p : goal.returns-then-p
+returns-then-p c =
     let a = c.args in
+    let p = a.p.now in
     let pre = c.requires in
-    let t = tested a.mask a.count a.free c.if-mask-count.true in
-    λ s. c.read_run.ensures s ∙ plain_rows a.rows.now a.first a.mask a.free a.count a.low (gathered_of a.seen s) pre.1 t.0 t.1
-
-pub read_few-requires : goal.read_few-requires
-read_few-requires c = let pre = c.requires in (pre.0, whole-small pre.1, pre.2)
+    let t = tested p.mask p.count p.free c.if-p.true in
+    λ s. c.read_run.ensures s ∙ plain_rows a.rows.now a.first p.mask p.free p.count p.low (gathered_of a.seen s) pre.1.whole t.0 t.1

@@ -30,8 +30,8 @@ overflow_mul-first c =
     let l = c.loop-rest in
     let z = c.lowest-skipped in
     let within = bit_left a.word l.b l.invariant.1 c.ranges.word.fits z.result z.ensures.2 in
-    let h = mul-le-mul_right {m = l.b + z.result} {n = 64} a.p.block (omega (arith, within)) in
-    omega (arith, h, pre.3)
+    let h = mul-le-mul_right {m = l.b + z.result} {n = 64} a.p.now.block (omega (arith, within)) in
+    omega (arith, h, pre.1.block)
 
 pub overflow_add-first : goal.overflow_add-first
 overflow_add-first c =
@@ -40,8 +40,8 @@ overflow_add-first c =
     let l = c.loop-rest in
     let z = c.lowest-skipped in
     let within = bit_left a.word l.b l.invariant.1 c.ranges.word.fits z.result z.ensures.2 in
-    let h = mul-le-mul_right {m = l.b + z.result} {n = 64} a.p.block (omega (arith, within)) in
-    omega (arith, h, pre.2, pre.3)
+    let h = mul-le-mul_right {m = l.b + z.result} {n = 64} a.p.now.block (omega (arith, within)) in
+    omega (arith, h, pre.2, pre.1.block)
 
 pub overflow_add-first-in-loop-rest : goal.overflow_add-first-in-loop-rest
 overflow_add-first-in-loop-rest c =
@@ -51,8 +51,8 @@ overflow_add-first-in-loop-rest c =
     let z = c.lowest-skipped in
     let within = bit_left a.word l.b l.invariant.1 c.ranges.word.fits z.result z.ensures.2 in
     let fits = pre.0 (l.b + z.result) within (sym (rest-bit a.word l.b l.invariant.1 z.result) ∙ z.ensures.2) in
-    let h = mul-le-mul_right {m = l.b + z.result} {n = 64} a.p.block (omega (arith, within)) in
-    omega (arith, h, pre.2, pre.3, fits)
+    let h = mul-le-mul_right {m = l.b + z.result} {n = 64} a.p.now.block (omega (arith, within)) in
+    omega (arith, h, pre.2, pre.1.block, fits)
 
 pub read_one-g-requires : goal.read_one-g-requires
 read_one-g-requires c =
@@ -62,7 +62,7 @@ read_one-g-requires c =
     let z = c.lowest-skipped in
     let within = bit_left a.word l.b l.invariant.1 c.ranges.word.fits z.result z.ensures.2 in
     let fits = pre.0 (l.b + z.result) within (sym (rest-bit a.word l.b l.invariant.1 z.result) ∙ z.ensures.2) in
-    (omega (arith, fits), pre.1, pre.4)
+    (omega (arith, fits), pre.1)
 
 pub overflow_shr-rest : goal.overflow_shr-rest
 overflow_shr-rest c = c.lowest-skipped.ensures.0
@@ -95,11 +95,11 @@ loop-rest-preserved c =
     let within = bit_left a.word l.b l.invariant.1 c.ranges.word.fits z.result z.ensures.2 in (
       omega (arith, within),
       left_next a.word l.b l.invariant.1 z.result,
-      word_next a.rows.now a.p a.word a.base (gathered_of a.seen a.next.now) l.b z.result l.invariant.1 z.ensures.1 z.ensures.2 refl l.invariant.2 c.read_one-g.ensures,
+      word_next a.rows.now a.p.now a.word a.base (gathered_of a.seen a.next.now) l.b z.result l.invariant.1 z.ensures.1 z.ensures.2 refl l.invariant.2 c.read_one-g.ensures,
     )
 
 pub returns : goal.returns
 returns c =
     let a = c.args in
     let l = c.loop-rest in
-    word-ends a.rows.now a.p a.word a.base (gathered_of a.seen a.next.now) l.b l.invariant.0 l.invariant.1 c.loop-rest-test.false l.invariant.2
+    word-ends a.rows.now a.p.now a.word a.base (gathered_of a.seen a.next.now) l.b l.invariant.0 l.invariant.1 c.loop-rest-test.false l.invariant.2
