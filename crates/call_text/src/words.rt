@@ -65,10 +65,16 @@ pub fn hex_word(text: &[u8]) -> Option<u16>
     Some(number_in(text, 16, 4)? as u16)
 }
 
+#[tactic(auto, unfolding(crate::specs::Words::hex_digit))]
 fn hex_digit(c: u8) -> u8
     ensures { (result ≡ hex_digit c) × (result ≤ 16) }
 {
-    char::from(c).to_digit(16).unwrap_or(16) as u8
+    match c {
+        b'0'..=b'9' => c - b'0',
+        b'a'..=b'f' => c - b'a' + 10,
+        b'A'..=b'F' => c - b'A' + 10,
+        _ => 16,
+    }
 }
 
 pub fn is_hex(text: &[u8], i: usize) -> bool

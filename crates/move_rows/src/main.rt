@@ -81,8 +81,11 @@ fn print_block(
     Ok(Ending::Done)
 }
 
-// The times of a tidied line of an admission, from its third space on.
-fn times(line: &[u8]) -> &[u8] {
+// The times of a tidied line of an admission, from its third space on. The older call has none, and its line, which may be long, is not looked through.
+fn times<'a>(line: &'a [u8], call: &[u8]) -> &'a [u8] {
+    if call.first() == Some(&1) {
+        return &[];
+    }
     let mut spaces = line.iter().enumerate().filter(|(_, byte)| **byte == b' ');
     let third = spaces.nth(2);
     third.and_then(|(i, _)| line.get(i..)).unwrap_or(&[])
@@ -102,11 +105,11 @@ fn admitted(call: &[u8]) -> Option<(usize, &[u8])> {
 fn print_call(out: &mut Output, way: Way, line: &[u8], call: &[u8]) -> io::Result<Ending> {
     let Some((count, bytes)) = admitted(call) else {
         out.write_all(line)?;
-        writeln!(out)?;
+        out.write_all(b"\n")?;
         return Ok(Ending::Done);
     };
     let (stored, rows) = bytes.split_at(count.min(bytes.len()));
-    print_block(out, way, stored, rows, times(line))
+    print_block(out, way, stored, rows, times(line, call))
 }
 
 // The bytes of the line's call; code is memory for it. None where it can't be read.

@@ -2,12 +2,12 @@
 
 #![tactic(auto)]
 
-mod hex;
+mod digits;
 mod input;
 mod output;
 mod unread;
 
-pub use hex::Hex;
+pub use digits::Hex;
 pub use input::{after_line, behind, front, read_full, zeros};
 pub use output::{Ending, Output};
 pub use unread::{MOST_TEXT, Unread};
