@@ -2,6 +2,7 @@
 ghost use Rattle.std.specs.Prelude.{◌≤◌, ◌<◌};
 
 use crate::Picture;
+use crate::diagram::variable_at;
 use crate::names::{Bundle, Name, Rails};
 use printing::{Output, behind, front};
 use sheet_spec::MOST_VARIABLES;
@@ -15,14 +16,15 @@ const SHOWN_ROWS: usize = 16;
 // The inputs, or the outputs, of the records, a space before each.
 #[derive(Clone, Copy)]
 struct Names<'a> {
-    records: &'a [[u8; 4]],
+    records: &'a [u8],
     inputs: bool,
 }
 
 impl fmt::Display for Names<'_> {
     fn fmt<W: fmt::Write>(&self, f: &mut fmt::Formatter<W>) -> fmt::Result {
         let inputs = self.inputs;
-        for &[variable, _, _, _] in self.records {
+        for d in 0..(self.records.len() / 4).min(MOST_VARIABLES) {
+            let variable = variable_at(self.records, d);
             if (variable < 128) == inputs {
                 write!(f, " {}", Name(variable))?;
             }
@@ -55,11 +57,11 @@ impl fmt::Display for Rows<'_> {
 impl Picture<'_> {
     // What the cell reads, in the order of a row's number: rails first. What it gives, in the order of a row's value: rails last.
     fn draw_label(&self, out: &mut Output, k: usize, place: CellPlace) -> io::Result<()> {
-        let rails = stored::cell_rails(self.records.as_flattened(), k);
-        let t = self.records.len();
+        let rails = stored::cell_rails(self.records, k);
+        let t = self.records.len() / 4;
         let records = behind(
-            front(self.records, t.saturating_sub(place.bottom)),
-            t.saturating_sub(place.top),
+            front(self.records, 4 * t.saturating_sub(place.bottom)),
+            4 * t.saturating_sub(place.top),
         );
         let (upper, inputs) = (
             Bundle(rails.upper),
@@ -146,7 +148,7 @@ impl Picture<'_> {
     // Each cell, topmost first, and the cut below it.
     pub fn draw_cells(&self, out: &mut Output) -> io::Result<()> {
         for k in 0..self.cells {
-            let place = stored::cell_place(self.records.as_flattened(), k);
+            let place = stored::cell_place(self.records, k);
             self.draw_cell(out, k, place)?;
             self.draw_cut(out, place.top, place.bottom.min(MOST_VARIABLES - 1))?;
         }

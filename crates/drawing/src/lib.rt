@@ -17,12 +17,13 @@ use std::io;
 use std::io::Write;
 use stored_spec::{MOST_RECORD_BYTES, MOST_ROW_BYTES};
 
-// What is drawn: the nodes (height, child for 0, child for 1), the records, a variable each, the rows, two bytes each, the width at each height, and how
-// many cells there are.
+// What is drawn: the words of the nodes, three each, and how many nodes there are, the records, four bytes a variable, the rows, two bytes each, the width
+// at each height, and how many cells there are.
 #[derive(Clone, Copy)]
 struct Picture<'a> {
-    nodes: &'a [[u16; 3]],
-    records: &'a [[u8; 4]],
+    words: &'a [u16],
+    nodes: usize,
+    records: &'a [u8],
     rows: &'a [[u8; 2]],
     widths: &'a Widths,
     cells: usize,
@@ -74,7 +75,7 @@ impl Picture<'_> {
 }
 
 // The picture of the job and sheet of the input, or "refused N".
-pub fn draw(out: &mut Output, input: &[u8]) -> io::Result<Ending> {
+pub fn draw_to(out: &mut Output, input: &[u8]) -> io::Result<Ending> {
     let mut words = node_memory();
     let mut records: [u8; MOST_RECORD_BYTES] = zeros();
     let mut rows: [u8; MOST_ROW_BYTES] = zeros();
@@ -83,13 +84,12 @@ pub fn draw(out: &mut Output, input: &[u8]) -> io::Result<Ending> {
         Err(refusal) => return out.refuse(refusal),
     };
     let (job, _) = job_in(input);
-    let (nodes, _) = words.as_chunks::<3>();
-    let (records, _) = records.as_chunks::<4>();
     let (rows, _) = rows.as_chunks::<2>();
     let widths = compiled.widths;
     let picture = Picture {
-        nodes: front(nodes, usize::from(compiled.nodes)),
-        records: front(records, job.n + job.m),
+        words: &words,
+        nodes: usize::from(compiled.nodes),
+        records: front(&records, 4 * (job.n + job.m)),
         rows,
         widths: &widths,
         cells: usize::from(compiled.cells),
@@ -97,11 +97,15 @@ pub fn draw(out: &mut Output, input: &[u8]) -> io::Result<Ending> {
     picture.draw(out)
 }
 
+// Prints it; where the output can't be written, standard error says so.
+pub fn draw(rt: HostRuntime, input: &[u8]) {
+    let mut out = Output::new(rt);
+    let said = draw_to(&mut out, input);
+    out.end(said);
+}
+
 // The same of standard input. Of more than 4,096 bytes the first 4,096 decide the answer.
 pub fn draw_input(rt: HostRuntime) {
     let mut memory: [u8; 4096] = zeros();
-    let input = printing::read_full(rt, &mut memory);
-    let mut out = Output::new(rt);
-    let said = draw(&mut out, input);
-    out.end(said);
+    draw(rt, printing::read_full(rt, &mut memory));
 }
