@@ -1,6 +1,7 @@
 // The cascade of the input's job.
-ghost use Rattle.std.specs.Prelude.{◌≡◌, IfOk, replicate};
+ghost use Rattle.std.specs.Prelude.{◌≡◌, Ok, IfOk, replicate};
 ghost use Rattle.refusals.specs.Numbers.{answered};
+ghost use Rattle.cutting.specs.Outcome.{compilation_given};
 ghost use Rattle.listing.specs.Block.{compiled_input, input_records, input_rows};
 
 use crate::{compile_input, job_in};
@@ -24,6 +25,7 @@ pub fn cascade_in<'a>(
 ) -> Result<Cascade<'a>, Refusal>
     requires { (records.old ≡ replicate 80 0) × (rows.old ≡ replicate 65536 0) }
     ensures refused { answered result ≡ (compiled_input input.now).answer.refusal }
+    ensures totals { IfOk result (λ c. compilation_given (Ok c.totals) ≡ (compiled_input input.now).answer) }
     ensures written { IfOk result (λ c. (c.records.now ≡ input_records input.now) × (c.rows.now ≡ input_rows input.now)) }
 {
     let (job, _) = job_in(input);

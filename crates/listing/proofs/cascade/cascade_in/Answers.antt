@@ -21,6 +21,12 @@ returns-clause-refused c =
     (whole c.args.input.now c.args.records.now c.args.rows.now _ c.compile_input.new.records c.compile_input.new.rows c.requires.0 c.requires.1
     c.in_ok-totals.ensures)
 
+pub returns-clause-totals : goal.returns-clause-totals
+returns-clause-totals c =
+    ap (λ (o : WholeOutcome). o.answer)
+    (whole c.args.input.now c.args.records.now c.args.rows.now _ c.compile_input.new.records c.compile_input.new.rows c.requires.0 c.requires.1
+    c.in_ok-totals.ensures)
+
 pub returns-clause-written : goal.returns-clause-written
 returns-clause-written c = (
   c.front-records.ensures
