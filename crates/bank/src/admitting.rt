@@ -1,5 +1,6 @@
 // A new bank, and admission.
-ghost use Rattle.std.specs.Prelude.{◌≡◌, ◌≤◌, ◌<◌, List, ℕ, length};
+ghost use Rattle.std.specs.Prelude.{◌≡◌, ◌+◌, ◌≤◌, ◌<◌, List, ℕ, length};
+ghost use Rattle.laws.specs.Lists.{written};
 ghost use Rattle.bank_spec.specs.State.{empty_bank, at_rest, state_of};
 ghost use Rattle.bank_spec.specs.Calls.{handed, with_block, admit};
 ghost use Rattle.bank.specs.Given.{admission_given, started, started_given};
@@ -49,6 +50,17 @@ pub fn start(limit: u16) -> Result<(Bank, Scan), Refusal>
     Ok((empty_bank(limit), at_rest()))
 }
 
+// Stores the bytes of from in to, from place at on. A loop, for it is compiled to a call of memcpy: copy_from_slice between slices that are both lent is
+// one of memmove, and the archive for C needs none.
+fn copy_at(from: &[u8], at: usize, to: &mut [u8])
+    requires { at + length from.now ≤ length to.old }
+    ensures { to.new ≡ written to.old at from.now }
+{
+    for i in 0..from.len() {
+        to[at + i] = from[i];
+    }
+}
+
 // The bank with one block more, of 1 to 20 records.
 fn with_block(bank: &Bank, records: &[u8], timing: Timing) -> Bank
     requires { (bank.now.count < 8) × (length records.now ≤ 80) }
@@ -96,6 +108,6 @@ pub fn admit_block(
     if (rows.len() < total * 2) | (MOST_ROWS < total) {
         return Err(Refusal::RowsShort);
     }
-    rows[at * 2..at * 2 + bytes.len()].copy_from_slice(bytes);
+    copy_at(bytes, at * 2, rows);
     Ok((with_block(bank, records, timing), at_rest()))
 }

@@ -30,12 +30,14 @@ fn part<const N: usize>(bytes: &[u8], at: usize) -> [u8; N]
     part
 }
 
-// Stores them there.
+// Stores them there, by a loop as copy_front of stored does.
 fn put<const N: usize>(part: &[u8; N], at: usize, bytes: &mut [u8])
     requires { at + N ≤ length bytes.old }
     ensures { bytes.new ≡ puts_at at N (λ i. get_or part.now i 0) bytes.old }
 {
-    bytes[at..at + N].copy_from_slice(part);
+    for i in 0..N {
+        bytes[at + i] = part[i];
+    }
 }
 
 pub fn bank_in(bytes: &BankBytes) -> Bank

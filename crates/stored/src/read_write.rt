@@ -61,12 +61,15 @@ fn bytes_of(from: StoredRecords, bytes: &mut [u8; MOST_RECORD_BYTES])
     }
 }
 
-// The bytes of from, at the front of to, as many as there is room for.
+// The bytes of from, at the front of to, as many as there is room for. A loop, for it is compiled to a call of memcpy: copy_from_slice between slices
+// that are both lent is one of memmove, and the archive for C needs none.
 pub fn copy_bytes(from: &[u8], to: &mut [u8])
     ensures { to.new ≡ puts (length from.now) (λ i. get_or from.now i 0) to.old }
 {
     let count = from.len().min(to.len());
-    to[..count].copy_from_slice(&from[..count]);
+    for i in 0..count {
+        to[i] = from[i];
+    }
 }
 
 // Writes record bytes and row bytes, where they are well formed and no memory is short.

@@ -7,27 +7,21 @@ use Prim.Native.Nat.{ℕ, ◌+◌, ◌*◌, ◌%◌, ◌/◌, ◌<◌, ◌≤◌
 use native.Mathlib.Omega.{arith}
 use lib.Dec.{eqb}
 use lib.ListN.{length, get_or, set, take, drop, length-append, get_or-append, length-drop}
-use lib.Seq.{get_or-append-add, get_or-take, get_or-drop, drop-drop, length-take-le}
+use lib.Seq.{get_or-append-add, get_or-take, get_or-drop, length-take-le}
 use Rattle.laws.specs.Bits.{flag}
 use Rattle.laws.specs.Lists.{tab, puts, puts_at}
 use Rattle.laws.proofs.Lists.{length-tab, get_or-tab, by_elements}
-use Rattle.laws.proofs.Puts.{copied_at, puts_at-next, puts_ext, puts-run, puts_one}
+use Rattle.laws.proofs.Puts.{puts_at-next, puts_ext, puts-run, puts_one}
 use Rattle.bank_spec.specs.declared.Bank.{Bank}
 use Rattle.bank_spec.specs.declared.Scan.{Scan}
 use Rattle.panel_calls.specs.StateBytes.{pair_at, bank_in, scan_in, bank_bytes, word_byte, scan_bytes}
 
--- a part read, and a part stored
+-- a part read
 pub part-read : (l : List ℕ) (at n : ℕ) → at + n ≤ length l → take n (drop at l) ≡ tab n (λ i. get_or l (at + i) 0)
 part-read l at n h =
     sym (by_elements (take n (drop at l)) n (λ i. get_or l (at + i) 0)
     (length-take-le n (drop at l) (omega (arith, length-drop at l)))
     (λ i k. sym (get_or-take n (drop at l) i 0 k ∙ get_or-drop at l i 0)))
-
-pub part-stored : (part l : List ℕ) (at n : ℕ) → length part ≡ n → at + n ≤ length l
-    → take at l ++ (part ++ drop n (drop at l)) ≡ puts_at at n (λ i. get_or part i 0) l
-part-stored part l at n e h =
-    ap (λ (t : List ℕ). take at l ++ (part ++ t)) (drop-drop n at l) ∙ sym (append_assoc (take at l) part (drop (at + n) l))
-    ∙ (rw e at (sym (copied_at l at part (omega (arith, e, h)))))
 
 -- the two bytes of a number
 pub two-lower : (x : ℕ) {bytes : List ℕ} → bytes ≡ x % 256 ∷ x / 256 % 256 ∷ [] → get_or bytes 0 0 ≡ x % 256

@@ -2,11 +2,10 @@
 -- Assumes nothing.
 use mathlib.Core.Path.{◌≡◌, refl, sym, ◌∙◌, ap, ap₂}
 use mathlib.Core.Bool.{true, false}
-use Prim.Native.Nat.{ℕ, ◌+◌, ◌*◌, ◌-◌, ◌<◌, ◌≤◌}
+use Prim.Native.Nat.{ℕ, ◌+◌, ◌*◌, ◌<◌, ◌≤◌}
 use native.Mathlib.Omega.{arith}
 use lib.ListN.{length}
 use borrow.Author.Rules.{rules}
-use borrow.Rule.Slice.PartMut.{put_mid}
 use Rattle.std.specs.Prelude.{Some, is_some}
 use Rattle.laws.specs.Tests.{every}
 use Rattle.refusals.specs.declared.Refusal.{Refusal}
@@ -18,7 +17,7 @@ use Rattle.bank_spec.specs.State.{rows_before}
 use Rattle.bank_spec.specs.Calls.{handed, with_block}
 use Rattle.bank.proofs.timing.DueTests.{fits_at}
 use Rattle.bank.proofs.formed.HeldBlocks.{bank_there}
-use Rattle.bank.proofs.admitting.AdmissionCases.{there_by, missing_by, put_whole, block-has, admit_12_state, admit_12_block, admit_16, admit_13, admit_14, admit_11, rows_fit, admit_accepts}
+use Rattle.bank.proofs.admitting.AdmissionCases.{there_by, missing_by, block-has, admit_12_state, admit_12_block, admit_16, admit_13, admit_14, admit_11, rows_fit, admit_accepts}
 use Rattle.bank.proofs.admitting.admit_block.Goals as goal
 
 pub returns-then-not-state_formed : goal.returns-then-not-state_formed
@@ -125,8 +124,8 @@ returns-then-rows-total c =
     let u = c.rows_before-at.ensures.0 ∙ ap (rows_before k) c.count-2.ensures in
     admit_11 k s a.rows.now a.records.now a.bytes.now a.period a.phase f w z refl h c.cell_count.ensures q c.if-not-cells_fit.false u c.row_count.ensures c.if-rows-total.true
 
-pub slice_bounds-copy_from_slice-end : goal.slice_bounds-copy_from_slice-end
-slice_bounds-copy_from_slice-end c =
+pub copy_at-requires : goal.copy_at-requires
+copy_at-requires c =
     let a = c.args in
     let k = a.bank.now in
     let s = a.scan.now in
@@ -166,9 +165,8 @@ returns c =
     let h : k.count < 8 = omega (arith, c.count.ensures, c.if-count-ge-MOST_BLOCKS.false) in
     let q = c.cells_fit.ensures ∙ ap₂ (λ (p f : ℕ). every 8 (fits_at k k.count p f c.cell_count.result)) same.0 same.1 in
     let u = c.rows_before-at.ensures.0 ∙ ap (rows_before k) c.count-2.ensures in
-    let start = c.rows_before-at.result * 2 in
     let R = a.records.now in
     let bank : c.with_block.result ≡ with_block k (handed R a.bytes.now a.period a.phase) =
     c.with_block.ensures a.bytes.now ∙ ap₂ (λ (p f : ℕ). with_block k (handed R a.bytes.now p f)) same.0 same.1 in
-    let rows = ap (put_mid start (start + length a.bytes.now - start) a.rows.now) c.copy_from_slice.ensures.after ∙ put_whole start a.rows.now a.bytes.now refl in
+    let rows = c.copy_at.ensures in
     admit_accepts k s a.rows.now a.records.now a.bytes.now a.period a.phase f w z refl h c.cell_count.ensures q c.if-not-cells_fit.false u c.row_count.ensures c.if-rows-total.false bank c.at_rest.ensures rows
