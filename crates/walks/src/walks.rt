@@ -40,12 +40,14 @@ pub fn walk_to(words: &NodeWords, bits: u32, h: u8, v: u16) -> u16
 pub fn same_nodes(words: &NodeWords, h: u8, v: u16, u: u16) -> bool
     ensures { result ≡ same_nodes words.now h v u }
 {
-    if h == 0 || v < 2 || u < 2 {
-        return v == u;
+    if v == u {
+        return true;
     }
-    v == u
-        || same_nodes(words, h - 1, low_of(words, v), low_of(words, u))
-            && same_nodes(words, h - 1, high_of(words, v), high_of(words, u))
+    if h == 0 || v < 2 || u < 2 {
+        return false;
+    }
+    same_nodes(words, h - 1, low_of(words, v), low_of(words, u))
+        && same_nodes(words, h - 1, high_of(words, v), high_of(words, u))
 }
 
 // Neither node is constant 0.
