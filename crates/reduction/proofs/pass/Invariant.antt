@@ -171,6 +171,9 @@ module _ (j : Job) (once : not_each_once j.n j.m j.order ≡ false) (few : j.n �
         (output_value j.n j.m (ins j H) (outs j H) g ha (omega arith) (omega arith) small_now w (rw (ea, eb) at width_above) s.few-columns planes_room zs os
         (rw (ea, eb) at (holds_above 0 zs s.zeros)) (rw (ea, eb) at (holds_above 1 os s.ones)))
 
+    pub line-room : is_input (var_at j (suc (t j - suc k))) ≡ false → outs j (t j - suc k) < 8
+    line-room v = omega (arith, outs_output j H v, outs_below j once few out (suc H) (omega arith), out)
+
     -- either kind of step
     pub stepped : (input : Bool) → is_input (var_at j (suc (t j - suc k))) ≡ input
         → (name : ℕ → ℕ) × (count : ℕ) × Step j.n j.m (ins j (t j - suc k)) (outs j (t j - suc k)) (merged j f k) input w name count zs os

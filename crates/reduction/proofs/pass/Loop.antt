@@ -29,7 +29,7 @@ use Rattle.reduction.proofs.heights.LoweringArrays.{cliques_fit}
 use Rattle.reduction.specs.Lowering.{narrow_or, first_node, firsts_below, cliques_below, product_below, nodes_over}
 use Rattle.reduction_spec.specs.Reduction.{final_table, final_nodes}
 use Rattle.reduction_spec.proofs.AcceptedSheet.{nodes_fit}
-use Rattle.reduction.proofs.pass.Invariant.{nodes-room, planes_room, too_wide_lem, next}
+use Rattle.reduction.proofs.pass.Invariant.{nodes-room, planes_room, line-room, too_wide_lem, next}
 use Rattle.reduction.proofs.pass.Ends.{small, At, start, wide_refused, end_count, end_widths, end_words, end_narrow}
 
 -- the planes that the pass begins with
@@ -110,11 +110,13 @@ module _ (j : Job) (s : List ℕ) (k a w at : ℕ) (zs os link widths words : Li
     outs_is : t j - 1 - k - a' ≡ outs j H
     outs_is = omega (arith, ins_is, ins-outs j H, height)
 
-    pub height_needs : (a' ≤ 12) × (a' ≤ t j - 1 - k) × (t j - 1 - k - a' ≤ 8) × (w ≤ 512) × (w * 2 * size a' ≤ 1024) × (length link ≡ 262144) × (at + w ≤ 10240)
+    pub height_needs : (a' ≤ 12) × (a' ≤ t j - 1 - k) × (t j - 1 - k - a' ≤ 8) × (input ≡ false → t j - 1 - k - a' < 8) × (w ≤ 512) × (w * 2 * size a' ≤ 1024) × (length link ≡ 262144) × (at + w ≤ 10240)
     height_needs = (
       omega (arith, ins_is, ins_below_lem j read.order-whole read.inputs read.outputs H (omega arith), read.inputs),
       omega (arith, ins_is, ins-outs j H, height),
       omega (arith, outs_is, outs_below j read.order-whole read.inputs read.outputs H (omega arith), read.outputs),
+      (λ e. rw outs_is
+          (line-room j read.order-whole read.inputs read.outputs (table j s) (small j s acc) k a w at zs os widths words g.stage (lower l) (kind ∙ e))),
       g.stage.few-columns,
       rw ins_is (planes_room j read.order-whole read.inputs read.outputs (table j s) (small j s acc) k a w at zs os widths words g.stage (lower l)),
       g.links,
@@ -138,7 +140,7 @@ module _ (j : Job) (s : List ℕ) (k a w at : ℕ) (zs os link widths words : Li
       answer = answer-is (length (firsts_below input a' (t j - 1 - k - a') (size a') w zs os)) r (length (cliques_below input a' (t j - 1 - k - a') (size a') w zs os)) er
 
       pub answer-fits : r < 65536
-      answer-fits = omega (arith, fine, answer, cliques_fit input a' (t j - 1 - k - a') (size a') w zs os height_needs.3 height_needs.4)
+      answer-fits = omega (arith, fine, answer, cliques_fit input a' (t j - 1 - k - a') (size a') w zs os height_needs.4 height_needs.5)
 
       module _ (r16 : ℕ) (e16 : r16 ≡ r) (zs' os' link' words' : List ℕ)
           (ez : zs' ≡ product_below input a' (t j - 1 - k - a') (size a') w zs os zs zs) (eo : os' ≡ product_below input a' (t j - 1 - k - a') (size a') w zs os os os)

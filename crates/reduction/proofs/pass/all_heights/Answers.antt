@@ -45,7 +45,7 @@ step-requires c =
     let p = c.requires.accepted in
     let l = c.loop-k in
     let n = height_needs (job_given a.job.now) p.0 l.k l.a l.w l.at l.planes.zero l.planes.one l.link l.widths l.words (l.invariant p.0 (p.1, p.2, p.3)) c.loop-k-test.true c.is_input-input.result c.is_input-input.ensures c.inputs_below-a.result c.inputs_below-a.ensures in
-    rw c.height_at-here.ensures (n.2, n.3, pow_pos (c.inputs_below-a.result - 3), n.4, n.5, n.0, n.6)
+    rw c.height_at-here.ensures (n.2, n.4, pow_pos (c.inputs_below-a.result - 3), n.5, n.6, n.0, n.7)
 
 pub returns-in_err-count : goal.returns-in_err-count
 returns-in_err-count c =
